@@ -1,0 +1,4 @@
+pub mod Coding
+pub mod Units
+pub mod Keys
+pub mod Sets

@@ -1,0 +1,81 @@
+-- What the grammar of a sign asks of a character set, and that both have it.
+use Prim.Native.Nat.{ℕ, zero, suc, _+_, _-_, _*_, _≤_, _<_}
+use mathlib.Core.List.{List, [], _∷_, _++_}
+use mathlib.Core.Path.{_≡_, refl, ap, _∙_}
+use native.Mathlib.Omega.{arith}
+use Rattle.format.specs.Format.{value, other, Format, first, second}
+use Rattle.format.specs.Numeral.{Range}
+use Rattle.format.proofs.Delimited.{Delimited, Fixed}
+use Rattle.format.proofs.Unit.{unit-below, unit-above}
+use Rattle.charset.specs.declared.Charset.{Charset}
+use Rattle.charset.specs.declared.Charset.the-variants.{Fsw, Swu}
+use Rattle.charset.specs.Bytes.{byteOf, markerOf, markerByte, scalarOf, utf8, byte, after}
+use Rattle.charset.specs.Tokens.{Tokens, fsw, swu, tokens, key, nullOrKey, fswNumber, lastCode}
+use Rattle.charset.proofs.Coding.{marker-of-byte, scalar-utf8}
+use Rattle.charset.proofs.Units.{letter-delimited, character-delimited, after-delimited}
+use Rattle.charset.proofs.Keys.{number-delimited, key-delimited, null-or-key-delimited, null-or-key-size}
+
+pub record LawfulTokens (t : Tokens) : Type 0 where
+  pub marker : (lo hi : ℕ) → lo ≤ hi → hi ≤ 4 → Fixed (t .unit) (t .markerSize) (t .marker lo hi)
+  pub range : (lo hi m : ℕ) → t .marker lo hi .Valid m → Range lo hi m
+  pub symbol : (top : ℕ) → 0x100 ≤ top → top ≤ 0x38b → Fixed (t .unit) (t .symbolSize) (t .symbol top)
+  pub symbolOrNull : (top : ℕ) → 0x100 ≤ top → top ≤ 0x38b → Fixed (t .unit) (t .symbolSize) (t .symbolOrNull top)
+  pub number : Fixed (t .unit) (t .numberSize) (t .number)
+  pub second : Fixed (t .unit) (t .secondSize) (t .second)
+  -- a marker of a signbox begins neither a prefix nor a symbol
+  pub no-prefix : (m : ℕ) (rest : List ℕ) → Range 1 4 m → t .marker 0 0 .read (t .marker 1 4 .write m ++ rest) ≡ other
+  pub no-symbol : (top m : ℕ) (rest : List ℕ) → Range 1 4 m → t .symbolOrNull top .read (t .marker 1 4 .write m ++ rest) ≡ other
+
+-- a byte that is not the one
+after-other : {A : Type 0} (b : ℕ) (f : Format A) (text : List ℕ) → byte b .read text ≡ other → after b f .read text ≡ other
+after-other {A = A} b f text e =
+    ap (λ r. first {A = ℕ × A} (first r λ a rest. second (λ v. (a, v)) rest (f .read rest)) λ p rest. value (p .1) rest) e
+
+marker-below : (m : ℕ) → Range 1 4 m → markerByte m < 83
+marker-below zero ok = absurd (omega (arith, ok .0))
+marker-below (suc zero) ok = omega arith
+marker-below (suc (suc zero)) ok = omega arith
+marker-below (suc (suc (suc zero))) ok = omega arith
+marker-below (suc (suc (suc (suc zero)))) ok = omega arith
+marker-below (suc (suc (suc (suc (suc m))))) ok = absurd (omega (arith, ok .1))
+
+pub fsw-lawful : LawfulTokens fsw
+fsw-lawful = record {
+  marker = λ lo hi h k. record { delimited = letter-delimited lo hi h k; size = λ v ok. refl };
+  range = λ lo hi m ok. ok;
+  symbol = λ top lo hi. record { delimited = after-delimited 83 (key top) (key-delimited top lo hi); size = λ v ok. refl };
+  symbolOrNull = λ top lo hi.
+      record { delimited = after-delimited 83 (nullOrKey top) (null-or-key-delimited top lo hi); size = λ v ok. ap suc (null-or-key-size top v) };
+  number = record { delimited = number-delimited; size = λ v ok. refl };
+  second = record { delimited = after-delimited 120 fswNumber number-delimited; size = λ v ok. refl };
+  no-prefix = λ m rest ok.
+      let e = marker-of-byte m (ok .1) in
+      unit-above 1 (byteOf markerOf) (λ m. markerByte m ∷ []) 0 0 (markerByte m ∷ []) rest refl (omega arith) (rw e (ok .0));
+  no-symbol = λ top m rest ok.
+      after-other 83 (nullOrKey top) (markerByte m ∷ rest)
+      (unit-below 1 (byteOf λ a. a) (λ a. a ∷ []) 83 83 (markerByte m ∷ []) rest refl (marker-below m ok));
+}
+
+pub swu-lawful : LawfulTokens swu
+swu-lawful = record {
+  marker = λ lo hi h k. record { delimited = character-delimited 0x1d800 lo hi (omega arith) h (omega arith); size = λ v ok. refl };
+  range = λ lo hi m ok. ok;
+  symbol = λ top lo hi.
+      record { delimited = character-delimited 0x40000 1 (lastCode top) (omega arith) (omega arith) (omega arith); size = λ v ok. refl };
+  symbolOrNull = λ top lo hi.
+      record { delimited = character-delimited 0x40000 0 (lastCode top) (omega arith) (omega arith) (omega arith); size = λ v ok. refl };
+  number = record { delimited = character-delimited (0x1d80c - 250) 250 749 (omega arith) (omega arith) (omega arith); size = λ v ok. refl };
+  second = record { delimited = character-delimited (0x1d80c - 250) 250 749 (omega arith) (omega arith) (omega arith); size = λ v ok. refl };
+  no-prefix = λ m rest ok.
+      let e : scalarOf (utf8 (0x1d800 + m)) ≡ 0x1d800 + m = scalar-utf8 (0x1d800 + m) (omega (arith, ok .1)) in
+      ap (λ r. first r λ a rest. value (a - 0x1d800) rest)
+      (unit-above 4 scalarOf utf8 (0x1d800 + 0) (0x1d800 + 0) (utf8 (0x1d800 + m)) rest refl (rw e (omega arith)) (rw e (omega (arith, ok .0))));
+  no-symbol = λ top m rest ok.
+      let e : scalarOf (utf8 (0x1d800 + m)) ≡ 0x1d800 + m = scalar-utf8 (0x1d800 + m) (omega (arith, ok .1)) in
+      ap (λ r. first r λ a rest. value (a - 0x40000) rest)
+      (unit-below 4 scalarOf utf8 (0x40000 + 0) (0x40000 + lastCode top) (utf8 (0x1d800 + m)) rest refl (rw e (omega (arith, ok .1))));
+}
+
+pub lawful : (set : Charset) → LawfulTokens (tokens set)
+lawful Fsw = fsw-lawful
+lawful Swu = swu-lawful

@@ -1,0 +1,3 @@
+// A quick look at whole tokens, for the reader's speed.
+
+pub mod fsw;

@@ -1,0 +1,11 @@
+pub mod Lawful
+pub mod Sequence
+pub mod Parts
+pub mod Many
+pub mod Unit
+pub mod Places
+pub mod Delimited
+pub mod Numerals
+pub mod Loop
+pub mod At
+pub mod Ends

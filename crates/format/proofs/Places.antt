@@ -1,0 +1,188 @@
+-- The law of places, once for every lawful format.
+use Prim.Native.Nat.{ℕ, zero, suc, _+_, _-_, _*_, _≤_, _<_}
+use mathlib.Core.List.{List, [], _∷_, _++_, append-assoc, append-nil}
+use mathlib.Core.Path.{_≡_, refl, sym, ap, _∙_}
+use mathlib.Core.Bool.{Bool, true, false}
+use mathlib.Core.Logic.{_↔_}
+use lib.Dec.{ltb}
+use lib.ListN.{length, drop, take, length-append, take-append-drop}
+use lib.Seq.{take-at, take-take, take-all, take-append-seam, take-append-add, length-take-le}
+use native.Mathlib.Omega.{arith}
+use native.Mathlib.Nat.{suc-mul, mul-one, mul-le-mul-right, lt-of-mul-lt-mul-right}
+use borrow.Author.Tests.{ltb-true, ltb-false}
+use Rattle.format.specs.Format.{Answer, value, other, wrong, short, Format, sequence, mapped, end}
+use Rattle.format.specs.Places.{whole, Whole, Begins, Formed, Outcome, fine, refused, unfinished, outcome, reading, Refused, Unfinished, Means}
+use Rattle.format.proofs.Lawful.{Strange, Bad, Cut, Says, Lawful}
+use Rattle.format.proofs.Sequence.{sequence-lawful}
+use Rattle.format.proofs.Parts.{mapped-lawful, end-lawful}
+
+wrong-value : {A : Type 0} {X : Type 0} {v : A} {r s : List ℕ} → wrong r ≡ value v s → X
+wrong-value e = absurd (let z : _≡_ {A = ℕ} 0 1 = cc in omega arith)
+
+other-value : {A : Type 0} {X : Type 0} {v : A} {s : List ℕ} → other ≡ value v s → X
+other-value e = absurd (let z : _≡_ {A = ℕ} 0 1 = cc in omega arith)
+
+short-value : {A : Type 0} {X : Type 0} {v : A} {s : List ℕ} → short ≡ value v s → X
+short-value e = absurd (let z : _≡_ {A = ℕ} 0 1 = cc in omega arith)
+
+same-value : {A : Type 0} {v u : A} {r s : List ℕ} → value v r ≡ value u s → fine v ≡ fine u
+same-value e = ap fine cc
+
+omega-length : (text x y : List ℕ) → text ≡ x ++ y → length text ≡ length x + length y
+omega-length text x y e = ap length e ∙ length-append x y
+
+pub whole-lawful : {A : Type 0} (w : ℕ) (f : Format A) → Lawful w f → Lawful w (whole w f)
+whole-lawful w f l =
+    mapped-lawful w (sequence f (λ a. end w)) (λ p. p .0) (λ a. (a, tt)) (f .Valid) (sequence-lawful w f (λ a. end w) l (λ a ok. end-lawful w (l .wide)))
+    (λ p ok. ok .0) (λ p ok. refl) (λ a ok. (ok, tt)) (λ a ok. refl)
+
+-- less of a beginning is one too
+pub begins-less : {A : Type 0} (f : Format A) (text : List ℕ) (j i : ℕ) → j ≤ i → Begins f (take i text) → Begins f (take j text)
+begins-less f text j i k b = record {
+  says = b .says;
+  valid = b .valid;
+  more = drop j (take i text) ++ b .more;
+  is = b .is ∙ ap (λ l. l ++ b .more) (sym (take-append-drop j (take i text)) ∙ ap (λ l. l ++ drop j (take i text)) (take-take j i text k))
+      ∙ append-assoc (take j text) (drop j (take i text)) (b .more);
+}
+
+formed-begins : {A : Type 0} (f : Format A) (text : List ℕ) (j : ℕ) (v : A) → f .Valid v → text ≡ f .write v → Begins f (take j text)
+formed-begins f text j v ok e = record { says = v; valid = ok; more = drop j text; is = sym e ∙ sym (take-append-drop j text) }
+
+-- of two whole numbers of units, the less is less by a unit
+apart : (w n m p q : ℕ) → p ≡ n * w → q ≡ m * w → p < q → p + w ≤ q
+apart w n m p q a b k =
+    let z : n < m = lt-of-mul-lt-mul-right w (omega arith) in
+    let y : suc n * w ≤ m * w = mul-le-mul-right w (omega arith) in
+    omega (arith, y, suc-mul n w)
+
+module _ {A : Type 0} (w : ℕ) (f : Format A) (l : Lawful w f) (ready : (v : A) → f .Valid v → f .Follow v []) where
+  abbrev h : Format A
+  h = whole w f
+
+  lh : Lawful w h
+  lh = whole-lawful w f l
+
+  begins-f : (x : List ℕ) → Begins h x → Begins f x
+  begins-f x b = record { says = b .says; valid = b .valid; more = b .more; is = sym (append-nil (f .write (b .says))) ∙ b .is }
+
+  reads-formed : (v : A) → f .Valid v → h .read (f .write v) ≡ value v []
+  reads-formed v ok =
+      ap (h .read) (sym (append-nil (f .write v)) ∙ sym (append-nil (f .write v ++ []))) ∙ lh .reads v [] ok (refl, ready v ok)
+
+  none : (x : List ℕ) → ((t : List ℕ) (v : A) → h .read (x ++ t) ≡ value v [] → ⊥) → Begins f x → ⊥
+  none x n b = n (b .more) (b .says) (ap (h .read) (sym (b .is)) ∙ reads-formed (b .says) (b .valid))
+
+  unformed : (text : List ℕ) → h .read text ≡ short → Formed f text → ⊥
+  unformed text e k = short-value (sym e ∙ ap (h .read) (k .is) ∙ reads-formed (k .says) (k .valid))
+
+  means-go : (text : List ℕ) (r : Answer A) → h .read text ≡ r → Says w h text r → Means w f text (outcome text r)
+  means-go text (value v rest) e s =
+      let z : rest ≡ [] = s .2 .0 in
+      (s .1, s .0 ∙ ap (λ k. (f .write v ++ []) ++ k) z ∙ append-nil (f .write v ++ []) ∙ append-nil (f .write v))
+  means-go text other e s = record {
+    inside = omega (arith, ap length (s .is), length-append (s .here) (s .tail), s .long);
+    unit = 0;
+    even = omega arith;
+    begins = begins-f [] (lh .some);
+    never = λ b. none (s .here) (λ t v q. other-value (sym (s .stays t) ∙ q))
+        (rw (ap (take (0 + w)) (s .is) ∙ take-at (s .here) (s .tail) (0 + w) (omega (arith, s .long))) at b);
+  }
+  means-go text (wrong rest) e s =
+      let n = length (s .front) in
+      let p : length text - length rest ≡ n = omega (arith, ap length (s .splits), length-append (s .front) rest) in
+      let z : take n text ≡ s .front = ap (take n) (s .splits) ∙ take-append-seam (s .front) rest in
+      let y : text ≡ (s .front ++ s .here) ++ s .tail = s .splits ∙ ap (λ k. s .front ++ k) (s .is) ∙ sym (append-assoc (s .front) (s .here) (s .tail)) in
+      let x : take (n + w) text ≡ s .front ++ s .here =
+      ap (take (n + w)) y ∙ take-at (s .front ++ s .here) (s .tail) (n + w) (length-append (s .front) (s .here) ∙ ap (λ k. n + k) (s .long)) in
+      rw p
+      (record {
+        inside = omega (arith, ap length y, length-append (s .front ++ s .here) (s .tail), length-append (s .front) (s .here), s .long);
+        unit = s .even .0;
+        even = s .even .1;
+        begins = rw z (begins-f (s .front) (s .begins));
+        never = λ b. none (s .front ++ s .here)
+            (λ t v q. wrong-value (sym (s .stays t) ∙ ap (h .read) (sym (append-assoc (s .front) (s .here) t)) ∙ q)) (rw x at b);
+      })
+  means-go text short e s =
+      let n = length (s .front) in
+      let m : n ≡ s .even .0 * w = s .even .1 in
+      let z : take n text ≡ s .front = ap (take n) (s .is) ∙ take-append-seam (s .front) (s .bit) in
+      let y = omega-length text (s .front) (s .bit) (s .is) in
+      record {
+        units = s .even .0;
+        inside = omega (arith, y, m);
+        less = omega (arith, y, m, s .less);
+        begins = rw (← m, z) (begins-f (s .front) (s .begins));
+        unformed = unformed text e;
+      }
+
+  -- the outcome means what it says
+  pub places : (text : List ℕ) → Means w f text (reading w f text)
+  places text = means-go text (h .read text) refl (lh .says text)
+
+  below : (text : List ℕ) (p q : ℕ) → Refused w f text p → Refused w f text q → p < q → ⊥
+  below text p q a b k = a .never (begins-less f text (p + w) q (apart w (a .unit) (b .unit) p q (a .even) (b .even) k) (b .begins))
+
+  uncut : (text : List ℕ) (p : ℕ) → Refused w f text p → Unfinished w f text → ⊥
+  uncut text p a b =
+      a .never (begins-less f text (p + w) (b .units * w) (apart w (a .unit) (b .units) p (b .units * w) (a .even) refl (omega (arith, a .inside, b .less))) (b .begins))
+
+  same-place : (text : List ℕ) (p q : ℕ) → Refused w f text p → Refused w f text q → (s t : Bool) → ltb p q ≡ s → ltb q p ≡ t → p ≡ q
+  same-place text p q a b true t x y = absurd (below text p q a b (ltb-true p q x))
+  same-place text p q a b false true x y = absurd (below text q p b a (ltb-true q p y))
+  same-place text p q a b false false x y = omega (arith, ltb-false p q x, ltb-false q p y)
+
+  -- no text has two outcomes
+  pub one-outcome : (text : List ℕ) (o k : Outcome A) → Means w f text o → Means w f text k → o ≡ k
+  one-outcome text (fine v) (fine u) a b =
+      same-value (sym (reads-formed v (a .0)) ∙ ap (h .read) (sym (a .1) ∙ b .1) ∙ reads-formed u (b .0))
+  one-outcome text (fine v) (refused p) a b = absurd (b .never (formed-begins f text (p + w) v (a .0) (a .1)))
+  one-outcome text (fine v) unfinished a b = absurd (b .unformed (record { says = v; valid = a .0; is = a .1 }))
+  one-outcome text (refused p) (fine v) a b = absurd (a .never (formed-begins f text (p + w) v (b .0) (b .1)))
+  one-outcome text (refused p) (refused q) a b = ap refused (same-place text p q a b (ltb p q) (ltb q p) refl refl)
+  one-outcome text (refused p) unfinished a b = absurd (uncut text p a b)
+  one-outcome text unfinished (fine v) a b = absurd (a .unformed (record { says = v; valid = b .0; is = b .1 }))
+  one-outcome text unfinished (refused p) a b = absurd (uncut text p b a)
+  one-outcome text unfinished unfinished a b = refl
+
+  -- THE LAW OF PLACES, both ways: an outcome is given exactly where it holds
+  pub exactly : (text : List ℕ) (o : Outcome A) → (reading w f text ≡ o) ↔ Means w f text o
+  exactly text o = (λ e. rw e at (places text), λ m. one-outcome text (reading w f text) o (places text) m)
+
+-- where a unit is a byte, the law in the paper's words
+module _ {A : Type 0} (f : Format A) (l : Lawful 1 f) (ready : (v : A) → f .Valid v → f .Follow v []) where
+  inside-go : (text : List ℕ) (p : ℕ) → Begins f (take p text) → (Begins f (take (p + 1) text) → ⊥) → (t : Bool) → ltb p (length text) ≡ t → p + 1 ≤ length text
+  inside-go text p b n true e = omega (arith, ltb-true p (length text) e)
+  inside-go text p b n false e =
+      let k : length text ≤ p = ltb-false p (length text) e in
+      let z : take p text ≡ take (p + 1) text = take-all p text k ∙ sym (take-all (p + 1) text (omega arith)) in
+      absurd (n (rw z at b))
+
+  pub wrong-exactly : (text : List ℕ) (p : ℕ) → (reading 1 f text ≡ refused p) ↔ (Begins f (take p text) × (Begins f (take (p + 1) text) → ⊥))
+  wrong-exactly text p = (
+    λ e. let m = exactly 1 f l ready text (refused p) .0 e in (m .begins, m .never),
+    λ m. exactly 1 f l ready text (refused p) .1
+        (record {
+          inside = inside-go text p (m .0) (m .1) (ltb p (length text)) refl;
+          unit = p;
+          even = sym (mul-one p);
+          begins = m .0;
+          never = m .1;
+        }),
+  )
+
+  pub short-exactly : (text : List ℕ) → (reading 1 f text ≡ unfinished) ↔ (Begins f text × (Formed f text → ⊥))
+  short-exactly text = (
+    λ e. let m = exactly 1 f l ready text unfinished .0 e in
+        let k : m .units * 1 ≡ length text = omega (arith, m .inside, m .less) in
+        (rw (k, take-all (length text) text (omega arith)) at (m .begins), m .unformed),
+    λ m. exactly 1 f l ready text unfinished .1
+        (record {
+          units = length text;
+          inside = omega arith;
+          less = omega arith;
+          begins = rw (mul-one (length text), take-all (length text) text (omega arith)) (m .0);
+          unformed = m .1;
+        }),
+  )

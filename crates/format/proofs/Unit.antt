@@ -1,0 +1,86 @@
+-- One unit that stands for a number of lo to hi is lawful, where of and to are inverse there.
+use Prim.Native.Nat.{ℕ, zero, suc, _+_, _-_, _*_, _≤_, _<_}
+use mathlib.Core.List.{List, [], _∷_, _++_, append-assoc, append-nil}
+use mathlib.Core.Path.{_≡_, refl, sym, ap, _∙_}
+use mathlib.Core.Bool.{Bool, true, false}
+use lib.Dec.{ltb}
+use lib.ListN.{length, drop, take, length-append, take-append-drop}
+use lib.Seq.{length-take-le, take-at, drop-at}
+use native.Mathlib.Omega.{arith}
+use borrow.Author.Tests.{ltb-true, ltb-false, lt-ltb, le-ltb}
+use Rattle.format.specs.Format.{Answer, value, other, wrong, short, Format, choose, within, unit}
+use Rattle.format.specs.Places.{Whole, Begins}
+use Rattle.format.proofs.Lawful.{Strange, Bad, Cut, Says, Lawful}
+
+-- of reads a unit as a number, and to writes it
+pub record Coding (w : ℕ) (of : List ℕ → ℕ) (to : ℕ → List ℕ) (lo hi : ℕ) : Type 0 where
+  pub least : lo ≤ hi
+  pub size : (v : ℕ) → lo ≤ v → v ≤ hi → length (to v) ≡ w
+  pub reads : (v : ℕ) → lo ≤ v → v ≤ hi → of (to v) ≡ v
+  pub writes : (u : List ℕ) → length u ≡ w → lo ≤ of u → of u ≤ hi → to (of u) ≡ u
+
+module _ (w : ℕ) (of : List ℕ → ℕ) (to : ℕ → List ℕ) (lo hi : ℕ) where
+  reads-unit : (u t : List ℕ) → length u ≡ w → unit w of to lo hi .read (u ++ t) ≡ within lo hi (of u) t
+  reads-unit u t e =
+      rw (le-ltb (length (u ++ t)) w (omega (arith, e, length-append u t)), take-at u t w e, drop-at u t w e) refl
+
+  pub unit-below : (u t : List ℕ) → length u ≡ w → of u < lo → unit w of to lo hi .read (u ++ t) ≡ other
+  unit-below u t e p = reads-unit u t e ∙ rw (lt-ltb (of u) lo p) refl
+
+  pub unit-above : (u t : List ℕ) → length u ≡ w → lo ≤ of u → hi < of u → unit w of to lo hi .read (u ++ t) ≡ other
+  unit-above u t e q p = reads-unit u t e ∙ rw (le-ltb (of u) lo q, lt-ltb hi (of u) p) refl
+
+  fits : (u t : List ℕ) → length u ≡ w → lo ≤ of u → of u ≤ hi → unit w of to lo hi .read (u ++ t) ≡ value (of u) t
+  fits u t e q p = reads-unit u t e ∙ rw (le-ltb (of u) lo q, le-ltb hi (of u) p) refl
+
+module _ (w : ℕ) (of : List ℕ → ℕ) (to : ℕ → List ℕ) (lo hi : ℕ) (wide : 1 ≤ w) (c : Coding w of to lo hi) where
+  abbrev h : Format ℕ
+  h = unit w of to lo hi
+
+  -- a whole unit
+  says-unit : (u t : List ℕ) → length u ≡ w → (p q : Bool) → ltb (of u) lo ≡ p → ltb hi (of u) ≡ q
+      → Says w h (u ++ t) (choose p other (choose q other (value (of u) t)))
+  says-unit u t e true q x y = record {
+    here = u;
+    tail = t;
+    is = refl;
+    long = e;
+    stays = λ s. unit-below w of to lo hi u s e (ltb-true (of u) lo x);
+  }
+  says-unit u t e false true x y = record {
+    here = u;
+    tail = t;
+    is = refl;
+    long = e;
+    stays = λ s. unit-above w of to lo hi u s e (ltb-false (of u) lo x) (ltb-true hi (of u) y);
+  }
+  says-unit u t e false false x y =
+      let a : lo ≤ of u = ltb-false (of u) lo x in
+      let b : of u ≤ hi = ltb-false hi (of u) y in
+      (ap (λ k. k ++ t) (sym (c .writes u e a b)), (a, b), tt)
+
+  says-go : (text : List ℕ) (r : Bool) → ltb (length text) w ≡ r → Says w h text (choose r short (within lo hi (of (take w text)) (drop w text)))
+  says-go text true e = record {
+    front = [];
+    bit = text;
+    is = refl;
+    less = ltb-true (length text) w e;
+    even = (0, omega arith);
+    begins = record { says = lo; valid = (omega arith, c .least); more = to lo; is = refl };
+  }
+  says-go text false e =
+      let u = take w text in
+      let z = says-unit u (drop w text) (length-take-le w text (ltb-false (length text) w e)) (ltb (of u) lo) (ltb hi (of u)) refl refl in
+      rw (take-append-drop w text) at z
+
+  pub unit-lawful : Lawful w (unit w of to lo hi)
+  unit-lawful = record {
+    wide = wide;
+    some = record { says = lo; valid = (omega arith, c .least); more = to lo; is = refl };
+    even = λ v ok. (1, omega (arith, c .size v (ok .0) (ok .1)));
+    keeps = λ v x t u ok k p. tt;
+    reads = λ v rest ok p.
+        let e = c .reads v (ok .0) (ok .1) in
+        fits w of to lo hi (to v) rest (c .size v (ok .0) (ok .1)) (rw e (ok .0)) (rw e (ok .1)) ∙ ap (λ k. value k rest) e;
+    says = λ text. says-go text (ltb (length text) w) refl;
+  }

@@ -1,0 +1,4 @@
+pub mod Format
+pub mod Numeral
+pub mod Places
+pub mod Located

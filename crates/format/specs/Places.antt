@@ -1,0 +1,66 @@
+-- What reading a whole text answers, and what each answer means.
+use Prim.Native.Nat.{ℕ, _+_, _-_, _*_, _≤_, _<_}
+use mathlib.Core.Path.{_≡_}
+use mathlib.Core.List.{List, _++_}
+use lib.ListN.{length, take}
+use Rattle.format.specs.Format.{Answer, value, other, wrong, short, Format, sequence, mapped, end}
+
+-- a number of whole units
+abbrev pub Whole : ℕ → List ℕ → Type 0
+Whole w text = (n : ℕ) × (length text ≡ n * w)
+
+-- well-formed: what the writer writes for some value
+pub record Formed {A : Type 0} (f : Format A) (text : List ℕ) : Type 0 where
+  pub says : A
+  pub valid : f .Valid says
+  pub is : text ≡ f .write says
+
+-- a beginning of a well-formed text
+pub record Begins {A : Type 0} (f : Format A) (text : List ℕ) : Type 0 where
+  pub says : A
+  pub valid : f .Valid says
+  pub more : List ℕ
+  pub is : f .write says ≡ text ++ more
+
+-- Reading a whole text.
+
+-- the format, and then the end of the text
+abbrev pub whole : {A : Type 0} → ℕ → Format A → Format A
+whole w f = mapped (sequence f (λ a. end w)) (λ p. p .0) (λ a. (a, tt)) (f .Valid)
+
+-- a value; refused as wrong at a place; or refused as unfinished
+pub data Outcome (A : Type 0) : Type 0 where
+  fine : A → Outcome A
+  refused : ℕ → Outcome A
+  unfinished : Outcome A
+
+abbrev pub outcome : {A : Type 0} → List ℕ → Answer A → Outcome A
+outcome text (value v rest) = fine v
+outcome text other = refused 0
+outcome text (wrong rest) = refused (length text - length rest)
+outcome text short = unfinished
+
+abbrev pub reading : {A : Type 0} → ℕ → Format A → List ℕ → Outcome A
+reading w f text = outcome text (whole w f .read text)
+
+-- the place p: whole units up to there begin a well-formed text, and with one unit more they begin none
+pub record Refused {A : Type 0} (w : ℕ) (f : Format A) (text : List ℕ) (p : ℕ) : Type 0 where
+  pub inside : p + w ≤ length text
+  pub unit : ℕ
+  pub even : p ≡ unit * w
+  pub begins : Begins f (take p text)
+  pub never : Begins f (take (p + w) text) → ⊥
+
+-- all whole units begin a well-formed text, and the text is not well-formed
+pub record Unfinished {A : Type 0} (w : ℕ) (f : Format A) (text : List ℕ) : Type 0 where
+  pub units : ℕ
+  pub inside : units * w ≤ length text
+  pub less : length text < units * w + w
+  pub begins : Begins f (take (units * w) text)
+  pub unformed : Formed f text → ⊥
+
+-- THE LAW OF PLACES: what each outcome means
+abbrev pub Means : {A : Type 0} → ℕ → Format A → List ℕ → Outcome A → Type 0
+Means w f text (fine v) = f .Valid v × (text ≡ f .write v)
+Means w f text (refused p) = Refused w f text p
+Means w f text unfinished = Unfinished w f text

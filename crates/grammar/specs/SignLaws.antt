@@ -1,0 +1,49 @@
+-- What is proved of the grammar of a sign, in both character sets.
+use Prim.Native.Nat.{ℕ, zero, suc, _+_, _*_, _≤_}
+use mathlib.Core.Path.{_≡_}
+use mathlib.Core.List.{List}
+use mathlib.Core.Logic.{_↔_}
+use lib.ListN.{length}
+use Rattle.format.specs.Places.{Outcome, fine, reading, Means}
+use Rattle.charset.specs.declared.Charset.{Charset}
+use Rattle.charset.specs.declared.Charset.the-variants.{Fsw, Swu}
+use Rattle.charset.specs.Tokens.{tokens}
+use Rattle.grammar.specs.Sign.{Meaning, Valid, sign, signText}
+
+-- reading a whole text as a sign
+abbrev pub readSign : Charset → List ℕ → Outcome Meaning
+readSign set text = reading (tokens set .unit) (sign set) text
+
+pub record SignLaws (set : Charset) : Type 0 where
+  -- reading what was written gives the sign back, and writing what was read gives the text back
+  pub reads : (m : Meaning) → Valid m → readSign set (signText set m) ≡ fine m
+  pub writes : (text : List ℕ) (m : Meaning) → readSign set text ≡ fine m → Valid m × (text ≡ signText set m)
+  -- the law of places: each outcome is given exactly where it holds (see Means)
+  pub places : (text : List ℕ) (o : Outcome Meaning) → (readSign set text ≡ o) ↔ Means (tokens set .unit) (sign set) text o
+
+-- how many bytes a sign takes, by the counts of its prefix symbols and signbox symbols
+abbrev pub headSize : Charset → ℕ
+headSize set = tokens set .markerSize + (tokens set .numberSize + tokens set .secondSize)
+
+abbrev pub spatialSize : Charset → ℕ
+spatialSize set = tokens set .symbolSize + (tokens set .numberSize + tokens set .secondSize)
+
+abbrev pub prefixSize : Charset → ℕ → ℕ
+prefixSize set zero = 0
+prefixSize set (suc n) = tokens set .markerSize + suc n * tokens set .symbolSize
+
+abbrev pub signSize : Charset → ℕ → ℕ → ℕ
+signSize set p n = prefixSize set p + (headSize set + n * spatialSize set)
+
+abbrev pub longest : Charset → ℕ
+longest Fsw = 1033
+longest Swu = 912
+
+-- with at most 32 prefix symbols and 64 signbox symbols a sign is no longer than this, and one is as long
+pub record Longest (set : Charset) : Type 0 where
+  pub most : (m : Meaning) → Valid m → length (m .prefix) ≤ 32 → length (m .symbols) ≤ 64 → length (signText set m) ≤ longest set
+  pub sign : Meaning
+  pub valid : Valid sign
+  pub prefix : length (sign .prefix) ≡ 32
+  pub symbols : length (sign .symbols) ≡ 64
+  pub size : length (signText set sign) ≡ longest set

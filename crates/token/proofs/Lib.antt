@@ -1,0 +1,10 @@
+pub mod Told
+pub mod Units
+pub mod Digits
+pub mod Keys
+pub mod Choices
+pub mod Ends
+pub mod CodeReads
+pub mod Writes
+pub mod Answers
+pub mod Codes

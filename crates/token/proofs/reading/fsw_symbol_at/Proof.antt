@@ -1,0 +1,29 @@
+use borrow.Author.Needs.{needs}
+use Rattle.charset.specs.Tokens.{key}
+use Rattle.token.proofs.Keys.{after-fails, after-told}
+use Rattle.token.proofs.reading.fsw_symbol_at.Statement.{statement}
+use Rattle.token.proofs.reading.fsw_symbol_at.Tie as tie
+
+byte-at-requires : tie.Need-byte-at-requires
+byte-at-requires c κs = search needs
+
+enum-told : tie.Need-enum-told
+enum-told c = search needs
+
+returns : tie.Need-returns
+returns c = after-fails 83 (key (c .before .before .before .args .top)) _ _ _ (c .before .byte-at .ensures) (c .match .keys2)
+
+add-key-at : tie.Need-add-key-at
+add-key-at c = search needs
+
+key-at-requires : tie.Need-key-at-requires
+key-at-requires c κs = search needs
+
+returns-2 : tie.Need-returns-2
+returns-2 c =
+    after-told 83 (key (c .before .before .before .before .before .args .top)) _ _ _ _ _ (c .before .before .before .byte-at .ensures)
+    (c .before .enum-told .given .1) (c .key-at .ensures)
+
+pub fsw-symbol-at-spec : {M : Type 1} → statement M
+fsw-symbol-at-spec =
+    tie.close (tie.spec byte-at-requires enum-told returns add-key-at key-at-requires returns-2)

@@ -1,0 +1,26 @@
+use borrow.Author.Needs.{needs}
+use Rattle.token.proofs.reading.marker_at.Statement.{statement}
+use Rattle.token.proofs.reading.marker_at.Tie as tie
+
+enum-told : tie.Need-enum-told
+enum-told c = search needs
+
+letter-at-requires : tie.Need-letter-at-requires
+letter-at-requires c κs = search needs
+
+enum-told-2 : tie.Need-enum-told-2
+enum-told-2 c = search needs
+
+character-at-requires : tie.Need-character-at-requires
+character-at-requires c κs = search needs
+
+returns : tie.Need-returns
+returns c = rw (c .before .enum-told .given .1) (c .letter-at .ensures)
+
+returns-2 : tie.Need-returns-2
+returns-2 c = rw (c .before .enum-told2 .given .1) (c .character-at .ensures)
+
+pub marker-at-spec : {M : Type 1} → statement M
+marker-at-spec =
+    tie.close
+    (tie.spec enum-told letter-at-requires enum-told-2 character-at-requires returns returns-2)

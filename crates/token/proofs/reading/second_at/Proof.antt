@@ -1,0 +1,36 @@
+use borrow.Author.Needs.{needs}
+use Rattle.token.proofs.reading.second_at.Statement.{statement}
+use Rattle.token.proofs.reading.second_at.Tie as tie
+
+enum-told : tie.Need-enum-told
+enum-told c = search needs
+
+fsw-second-at-requires : tie.Need-fsw-second-at-requires
+fsw-second-at-requires c κs = search needs
+
+enum-told-2 : tie.Need-enum-told-2
+enum-told-2 c = search needs
+
+sub-character-at : tie.Need-sub-character-at
+sub-character-at c = search needs
+
+character-at-requires : tie.Need-character-at-requires
+character-at-requires c κs = search needs
+
+returns : tie.Need-returns
+returns c = rw (c .before .enum-told .given .1) (c .fsw-second-at .ensures)
+
+returns-2 : tie.Need-returns-2
+returns-2 c = rw (c .before .enum-told2 .given .1) (c .character-at .ensures)
+
+pub second-at-spec : {M : Type 1} → statement M
+second-at-spec =
+    tie.close
+    (tie.spec
+    enum-told
+    fsw-second-at-requires
+    enum-told-2
+    sub-character-at
+    character-at-requires
+    returns
+    returns-2)

@@ -1,0 +1,107 @@
+use Prim.Native.Nat.{min}
+use mathlib.Core.List.{[], _∷_}
+use mathlib.Core.Path.{ap, _∙_}
+use native.Mathlib.Omega.{arith}
+use denote.Ref.{now}
+use borrow.Author.Needs.{needs}
+use Rattle.token.proofs.Digits.{First, Rest, head-fails, head-told, rest-limits, rest-told}
+use Rattle.token.proofs.reading.three_at.Statement.{statement}
+use Rattle.token.proofs.reading.three_at.Tie as tie
+
+div-digit-at : tie.Need-div-digit-at
+div-digit-at c = search needs
+
+div-digit-at-2 : tie.Need-div-digit-at-2
+div-digit-at-2 c = search needs
+
+digit-at-requires : tie.Need-digit-at-requires
+digit-at-requires c κs = search needs
+
+enum-known-first : tie.Need-enum-known-first
+enum-known-first c = search needs
+
+returns : tie.Need-returns
+returns c =
+    head-fails _ (_ ∷ []) _ _ (c .before .before .before .pre .1) (c .before .before .before .pre .2) _ _ _ (c .before .digit-at .ensures)
+    (c .match .keys2)
+
+add-two-at : tie.Need-add-two-at
+add-two-at c = search needs
+
+first : (c : tie.After-known-told)
+    → let a = c .before .before .before .before .before .args in
+    First (a .p) (a .lo) (a .hi) (now (a .s)) (a .at) (c .before .first .given .0 .0)
+first c =
+    head-told _ (_ ∷ []) _ _ (c .before .before .before .before .before .pre .1) (c .before .before .before .before .before .pre .2) _ _ _ _
+    (c .before .before .before .digit-at .ensures) (c .before .first .given .1)
+
+mul-less : tie.Need-mul-less
+mul-less c = omega (arith, first c .under)
+
+less-requires : tie.Need-less-requires
+less-requires c κs = search needs
+
+sub-least : tie.Need-sub-least
+sub-least c = search needs
+
+mul-less-2 : tie.Need-mul-less-2
+mul-less-2 c = omega (arith, first (c .before) .under)
+
+less-requires-2 : tie.Need-less-requires-2
+less-requires-2 c κs = search needs
+
+least-requires : tie.Need-least-requires
+least-requires c κs = search needs
+
+two-at-requires : tie.Need-two-at-requires
+two-at-requires c κs =
+    let l =
+    rest-limits _ (_ ∷ []) _ _ (c .before .before .before .before .before .before .before .before .pre .1) (c .before .before .before .before .before .before .before .before .pre .2)
+    _ _ _ _ _ (first (c .before .before .before)) (c .before .before .less .ensures) (c .least .ensures ∙ ap (min _) (c .before .less2 .ensures)) in
+    (omega arith, l .0, l .1)
+
+enum-known-next : tie.Need-enum-known-next
+enum-known-next c = search needs
+
+rest : (c : tie.After-two-at)
+    → let a = c .before .before .before .before .before .before .before .before .before .args in
+    Rest (a .p) (a .q ∷ []) (a .lo) (a .hi) (now (a .s)) (a .at) (c .before .before .before .before .before .first .given .0 .0) (c .two-at .result)
+rest c =
+    rest-told _ (_ ∷ []) _ _ (c .before .before .before .before .before .before .before .before .before .pre .1)
+    (c .before .before .before .before .before .before .before .before .before .pre .2) _ _ _ _ _ _ (first (c .before .before .before .before))
+    (c .before .before .before .less .ensures) (c .before .least .ensures ∙ ap (min _) (c .before .before .less2 .ensures)) (c .two-at .ensures)
+
+returns-2 : tie.Need-returns-2
+returns-2 c = rest (c .before) .fails (c .match2 .keys2)
+
+mul-t11 : tie.Need-mul-t11
+mul-t11 c = omega (arith, first (c .before .before .before .before .before .before .before) .under)
+
+add-t17 : tie.Need-add-t17
+add-t17 c = omega (arith, rest (c .before .before .before) .fits _ (c .before .next .given .1))
+
+returns-3 : tie.Need-returns-3
+returns-3 c = rest (c .before .before .before) .value _ (c .before .next .given .1)
+
+pub three-at-spec : {M : Type 1} → statement M
+three-at-spec =
+    tie.close
+    (tie.spec
+    div-digit-at
+    div-digit-at-2
+    digit-at-requires
+    enum-known-first
+    returns
+    add-two-at
+    mul-less
+    less-requires
+    sub-least
+    mul-less-2
+    less-requires-2
+    least-requires
+    two-at-requires
+    enum-known-next
+    returns-2
+    mul-t11
+    add-t17
+    returns-3)

@@ -1,0 +1,6 @@
+pub mod Refusal
+pub mod Result
+pub mod Token
+pub mod Ends
+pub mod Codes
+pub mod Wrote

@@ -1,0 +1,48 @@
+-- What a call comes to, and how it is answered.
+use Prim.Native.Nat.{ℕ}
+use mathlib.Core.List.{List, _++_}
+use lib.Dec.{ltb}
+use lib.ListN.{length, drop}
+use Rattle.format.specs.Format.{choose}
+use Rattle.format.specs.Places.{Outcome, fine, refused, unfinished}
+use Rattle.token.specs.declared.Written.{Written}
+use Rattle.token.specs.Refusal.{textWrong, textShort, roomShort}
+
+-- a refusal number with its place, or a value
+pub data Result (A : Type 0) : Type 0 where
+  refusal : ℕ → ℕ → Result A
+  done : A → Result A
+
+abbrev pub onDone : {A B : Type 0} → (A → B) → Result A → Result B
+onDone to (refusal number place) = refusal number place
+onDone to (done a) = done (to a)
+
+-- a text of size bytes, refused as 1 at the place or as 2 at its length
+abbrev pub ofOutcome : {A : Type 0} → ℕ → Outcome A → Result A
+ofOutcome size (fine a) = done a
+ofOutcome size (refused p) = refusal textWrong p
+ofOutcome size unfinished = refusal textShort size
+
+-- A call that writes text needs room for the whole of it: too little is refused as 6, with the room needed.
+abbrev pub fitted : ℕ → List ℕ → Result (List ℕ)
+fitted room text = choose (ltb room (length text)) (refusal roomShort (length text)) (done text)
+
+abbrev pub inRoom : ℕ → Result (List ℕ) → Result (List ℕ)
+inRoom room (refusal number place) = refusal number place
+inRoom room (done text) = fitted room text
+
+-- the answer: its length, and zeros where the call is refused
+abbrev pub writtenAs : Result (List ℕ) → Written
+writtenAs (refusal number place) = record { number = number; place = place; length = 0 }
+writtenAs (done text) = record { number = 0; place = 0; length = length text }
+
+-- the lent memory after the call: the text at its start, and nothing else changed
+abbrev pub leftAs : List ℕ → Result (List ℕ) → List ℕ
+leftAs out (refusal number place) = out
+leftAs out (done text) = text ++ drop (length text) out
+
+unfoldable pub written : List ℕ → Result (List ℕ) → Written
+written out r = writtenAs (inRoom (length out) r)
+
+unfoldable pub output : List ℕ → Result (List ℕ) → List ℕ
+output out r = leftAs out (inRoom (length out) r)

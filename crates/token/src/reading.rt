@@ -1,0 +1,397 @@
+// Reading one token at an offset of a text, digit by digit, so that the place of what is wrong is exact.
+ghost use mathlib.Core.Path.{_≡_};
+ghost use mathlib.Core.List.{[], _∷_};
+ghost use Prim.Native.Nat.{_+_, _-_, _^_, _≤_, min};
+ghost use Rattle.format.specs.Numeral.{Weights};
+ghost use Rattle.charset.specs.Bytes.{digitOf, digit as oneDigit, digits, byte, markerOf, letter, scalarOf, character};
+ghost use Rattle.charset.specs.Tokens.{key, null, nullOrKey, tokens};
+ghost use Rattle.token.specs.Codes.{codeRead};
+ghost use Rattle.token.specs.Token.{tokenAt};
+ghost use Rattle.token.specs.Ends.{leftOver};
+use super::Code;
+use super::refusal::DONE;
+use super::refusal::TEXT_SHORT;
+use super::refusal::TEXT_WRONG;
+use charset::Charset;
+
+// What reading one token finds: its value, the offset of the unit that is not allowed, or that the text ends.
+pub enum Token {
+    Value(u16),
+    Wrong(usize),
+    Short,
+}
+
+// The value of a hexadecimal digit in lower case, and 16 for any other byte.
+fn digit(b: u8) -> u16
+    ensures { λ r. ⌜ r ≡ digitOf b ⌝ }
+{
+    if b < 48 {
+        return 16;
+    }
+    if b < 58 {
+        return (b as u16) - 48;
+    }
+    if b < 97 {
+        return 16;
+    }
+    if b < 103 {
+        return (b as u16) - 87;
+    }
+    16
+}
+
+// One digit of lo to hi.
+pub fn digit_at(s: &[u8], at: usize, lo: u16, hi: u16) -> Token
+    ensures { λ r. ⌜ r ≡ tokenAt (oneDigit lo hi) (now (s .entry)) at ⌝ }
+{
+    if s.len() <= at {
+        return Token::Short;
+    }
+    let d = digit(s[at]);
+    if d < lo {
+        return Token::Wrong(at);
+    }
+    if hi < d {
+        return Token::Wrong(at);
+    }
+    Token::Value(d)
+}
+
+// What is left of a after b, and 0 where b is more.
+fn less(a: u16, b: u16) -> u16
+    ensures { λ r. ⌜ r ≡ a - b ⌝ }
+{
+    if a < b {
+        return 0;
+    }
+    a - b
+}
+
+// The lesser.
+fn least(a: u16, b: u16) -> u16
+    ensures { λ r. ⌜ r ≡ min a b ⌝ }
+{
+    if a < b {
+        return a;
+    }
+    b
+}
+
+// Two digits that say a number of lo to hi, the first with the weight p.
+pub fn two_at(s: &[u8], at: usize, p: u16, lo: u16, hi: u16) -> Token
+    requires { ⌜ (at + 8 ≤ 2 ^ 64) × (lo ≤ hi) × Weights 15 15 hi (p ∷ []) ⌝ }
+    ensures { λ r. ⌜ r ≡ tokenAt (digits (p ∷ []) lo hi) (now (s .entry)) at ⌝ }
+{
+    let first = digit_at(s, at, lo / p, hi / p);
+    let Token::Value(a) = first else {
+        return first;
+    };
+    let next = digit_at(s, at + 1, less(lo, a * p), least(p - 1, less(hi, a * p)));
+    let Token::Value(b) = next else {
+        return next;
+    };
+    Token::Value(a * p + b)
+}
+
+// Three digits that say a number of lo to hi, the first two with the weights p and q.
+pub fn three_at(s: &[u8], at: usize, p: u16, q: u16, lo: u16, hi: u16) -> Token
+    requires { ⌜ (at + 16 ≤ 2 ^ 64) × (lo ≤ hi) × Weights 15 15 hi (p ∷ q ∷ []) ⌝ }
+    ensures { λ r. ⌜ r ≡ tokenAt (digits (p ∷ q ∷ []) lo hi) (now (s .entry)) at ⌝ }
+{
+    let first = digit_at(s, at, lo / p, hi / p);
+    let Token::Value(a) = first else {
+        return first;
+    };
+    let next = two_at(s, at + 1, q, less(lo, a * p), least(p - 1, less(hi, a * p)));
+    let Token::Value(b) = next else {
+        return next;
+    };
+    Token::Value(a * p + b)
+}
+
+// The byte b.
+pub fn byte_at(s: &[u8], at: usize, b: u8) -> Token
+    ensures { λ r. ⌜ r ≡ tokenAt (byte b) (now (s .entry)) at ⌝ }
+{
+    if s.len() <= at {
+        return Token::Short;
+    }
+    if s[at] < b {
+        return Token::Wrong(at);
+    }
+    if b < s[at] {
+        return Token::Wrong(at);
+    }
+    Token::Value(b as u16)
+}
+
+// What follows the S of a symbol key with a base of at most top, as its code.
+fn key_at(s: &[u8], at: usize, top: u16) -> Token
+    requires { ⌜ (at + 32 ≤ 2 ^ 64) × (0x100 ≤ top) × (top ≤ 0x38b) ⌝ }
+    ensures { λ r. ⌜ r ≡ tokenAt (key top) (now (s .entry)) at ⌝ }
+{
+    let base = three_at(s, at, 256, 16, 0x100, top);
+    let Token::Value(b) = base else {
+        return base;
+    };
+    let turn = two_at(s, at + 3, 16, 0, 0x5f);
+    let Token::Value(t) = turn else {
+        return turn;
+    };
+    Token::Value((b - 0x100) * 96 + t + 1)
+}
+
+// What follows the S of the null symbol.
+fn null_at(s: &[u8], at: usize) -> Token
+    requires { ⌜ at + 32 ≤ 2 ^ 64 ⌝ }
+    ensures { λ r. ⌜ r ≡ tokenAt null (now (s .entry)) at ⌝ }
+{
+    let base = three_at(s, at, 256, 16, 0, 0);
+    let Token::Value(_) = base else {
+        return base;
+    };
+    let turn = two_at(s, at + 3, 16, 0, 0);
+    let Token::Value(_) = turn else {
+        return turn;
+    };
+    Token::Value(0)
+}
+
+// What follows the S of the null symbol or of a symbol key with a base of at most top.
+fn null_or_key_at(s: &[u8], at: usize, top: u16) -> Token
+    requires { ⌜ (at + 32 ≤ 2 ^ 64) × (0x100 ≤ top) × (top ≤ 0x38b) ⌝ }
+    ensures { λ r. ⌜ r ≡ tokenAt (nullOrKey top) (now (s .entry)) at ⌝ }
+{
+    let zero = null_at(s, at);
+    let Token::Wrong(p) = zero else {
+        return zero;
+    };
+    if p == at {
+        return key_at(s, at, top);
+    }
+    zero
+}
+
+// The markers A, B, L, M, R are 0 to 4, and any other byte is 5.
+pub fn marker_of(b: u8) -> u16
+    ensures { λ r. ⌜ r ≡ markerOf b ⌝ }
+{
+    let mut m: u16 = 5;
+    if b == 82 {
+        m = 4;
+    }
+    if b == 77 {
+        m = 3;
+    }
+    if b == 76 {
+        m = 2;
+    }
+    if b == 66 {
+        m = 1;
+    }
+    if b == 65 {
+        m = 0;
+    }
+    m
+}
+
+// One marker of lo to hi in FSW.
+fn letter_at(s: &[u8], at: usize, lo: u16, hi: u16) -> Token
+    ensures { λ r. ⌜ r ≡ tokenAt (letter lo hi) (now (s .entry)) at ⌝ }
+{
+    if s.len() <= at {
+        return Token::Short;
+    }
+    let m = marker_of(s[at]);
+    if m < lo {
+        return Token::Wrong(at);
+    }
+    if hi < m {
+        return Token::Wrong(at);
+    }
+    Token::Value(m)
+}
+
+// The code point of four bytes of UTF-8, and 0 where they are none.
+fn scalar(a: u8, b: u8, c: u8, d: u8) -> u32
+    ensures { λ r. ⌜ r ≡ scalarOf (a ∷ b ∷ c ∷ d ∷ []) ⌝ }
+{
+    if a / 8 != 30 {
+        return 0;
+    }
+    if b / 64 != 2 {
+        return 0;
+    }
+    if c / 64 != 2 {
+        return 0;
+    }
+    if d / 64 != 2 {
+        return 0;
+    }
+    (a as u32) % 8 * 262144 + (b as u32) % 64 * 4096 + (c as u32) % 64 * 64 + (d as u32) % 64
+}
+
+// One character of four bytes, as its distance lo to hi from a code point.
+fn character_at(s: &[u8], at: usize, from: u32, lo: u32, hi: u32) -> Token
+    requires { ⌜ (at + 8 ≤ 2 ^ 64) × (from ≤ 0x40000) × (lo ≤ 65535) × (hi ≤ 65535) ⌝ }
+    ensures { λ r. ⌜ r ≡ tokenAt (character from lo hi) (now (s .entry)) at ⌝ }
+{
+    if s.len() < at + 4 {
+        return Token::Short;
+    }
+    let c = scalar(s[at], s[at + 1], s[at + 2], s[at + 3]);
+    if c < from + lo {
+        return Token::Wrong(at);
+    }
+    if from + hi < c {
+        return Token::Wrong(at);
+    }
+    Token::Value((c - from) as u16)
+}
+
+// A symbol in FSW with a base of at most top.
+fn fsw_symbol_at(s: &[u8], at: usize, top: u16) -> Token
+    requires { ⌜ (at + 64 ≤ 2 ^ 64) × (0x100 ≤ top) × (top ≤ 0x38b) ⌝ }
+    ensures { λ r. ⌜ r ≡ tokenAt (tokens Charset.Fsw .symbol top) (now (s .entry)) at ⌝ }
+{
+    let letter = byte_at(s, at, 83);
+    let Token::Value(_) = letter else {
+        return letter;
+    };
+    key_at(s, at + 1, top)
+}
+
+// The same, or the null symbol.
+fn fsw_symbol_or_null_at(s: &[u8], at: usize, top: u16) -> Token
+    requires { ⌜ (at + 64 ≤ 2 ^ 64) × (0x100 ≤ top) × (top ≤ 0x38b) ⌝ }
+    ensures { λ r. ⌜ r ≡ tokenAt (tokens Charset.Fsw .symbolOrNull top) (now (s .entry)) at ⌝ }
+{
+    let letter = byte_at(s, at, 83);
+    let Token::Value(_) = letter else {
+        return letter;
+    };
+    null_or_key_at(s, at + 1, top)
+}
+
+// The second number of a coordinate in FSW, after its x.
+fn fsw_second_at(s: &[u8], at: usize) -> Token
+    requires { ⌜ at + 64 ≤ 2 ^ 64 ⌝ }
+    ensures { λ r. ⌜ r ≡ tokenAt (tokens Charset.Fsw .second) (now (s .entry)) at ⌝ }
+{
+    let letter = byte_at(s, at, 120);
+    let Token::Value(_) = letter else {
+        return letter;
+    };
+    three_at(s, at + 1, 100, 10, 250, 749)
+}
+
+// A marker of lo to hi.
+pub fn marker_at(set: Charset, s: &[u8], at: usize, lo: u16, hi: u16) -> Token
+    requires { ⌜ (at + 64 ≤ 2 ^ 64) × (hi ≤ 4) ⌝ }
+    ensures { λ r. ⌜ r ≡ tokenAt (tokens set .marker lo hi) (now (s .entry)) at ⌝ }
+{
+    match set {
+        Charset::Fsw => letter_at(s, at, lo, hi),
+        Charset::Swu => character_at(s, at, 0x1d800, lo as u32, hi as u32),
+    }
+}
+
+// A symbol with a base of at most top.
+pub fn symbol_at(set: Charset, s: &[u8], at: usize, top: u16) -> Token
+    requires { ⌜ (at + 64 ≤ 2 ^ 64) × (0x100 ≤ top) × (top ≤ 0x38b) ⌝ }
+    ensures { λ r. ⌜ r ≡ tokenAt (tokens set .symbol top) (now (s .entry)) at ⌝ }
+{
+    match set {
+        Charset::Fsw => fsw_symbol_at(s, at, top),
+        Charset::Swu => character_at(s, at, 0x40000, 1, (top as u32 - 0xff) * 96),
+    }
+}
+
+// The same, or the null symbol.
+pub fn symbol_or_null_at(set: Charset, s: &[u8], at: usize, top: u16) -> Token
+    requires { ⌜ (at + 64 ≤ 2 ^ 64) × (0x100 ≤ top) × (top ≤ 0x38b) ⌝ }
+    ensures { λ r. ⌜ r ≡ tokenAt (tokens set .symbolOrNull top) (now (s .entry)) at ⌝ }
+{
+    match set {
+        Charset::Fsw => fsw_symbol_or_null_at(s, at, top),
+        Charset::Swu => character_at(s, at, 0x40000, 0, (top as u32 - 0xff) * 96),
+    }
+}
+
+// The first number of a coordinate.
+pub fn number_at(set: Charset, s: &[u8], at: usize) -> Token
+    requires { ⌜ at + 64 ≤ 2 ^ 64 ⌝ }
+    ensures { λ r. ⌜ r ≡ tokenAt (tokens set .number) (now (s .entry)) at ⌝ }
+{
+    match set {
+        Charset::Fsw => three_at(s, at, 100, 10, 250, 749),
+        Charset::Swu => character_at(s, at, 0x1d80c - 250, 250, 749),
+    }
+}
+
+// The second number of a coordinate.
+pub fn second_at(set: Charset, s: &[u8], at: usize) -> Token
+    requires { ⌜ at + 64 ≤ 2 ^ 64 ⌝ }
+    ensures { λ r. ⌜ r ≡ tokenAt (tokens set .second) (now (s .entry)) at ⌝ }
+{
+    match set {
+        Charset::Fsw => fsw_second_at(s, at),
+        Charset::Swu => character_at(s, at, 0x1d80c - 250, 250, 749),
+    }
+}
+
+// The bytes of a unit.
+fn unit(set: Charset) -> usize
+    ensures { λ r. ⌜ r ≡ tokens set .unit ⌝ }
+{
+    match set {
+        Charset::Fsw => 1,
+        Charset::Swu => 4,
+    }
+}
+
+// Where nothing may follow: 0 at the end of a text, 2 where less than a unit is left, and 1 where more is.
+pub fn left_over(set: Charset, size: usize, at: usize) -> u8
+    requires { ⌜ at ≤ size ⌝ }
+    ensures { λ r. ⌜ r ≡ leftOver set size at ⌝ }
+{
+    if at == size {
+        return DONE;
+    }
+    let w = unit(set);
+    if size - at < w {
+        return TEXT_SHORT;
+    }
+    TEXT_WRONG
+}
+
+fn code_is(number: u8, place: usize, code: u16) -> Code
+    ensures { λ r. ⌜ r ≡ record { number = number; place = place; code = code } ⌝ }
+{
+    Code {
+        number: number,
+        place: place,
+        code: code,
+    }
+}
+
+// Reads the symbol of a text by itself.
+pub fn read_code(set: Charset, s: &[u8]) -> Code
+    ensures { λ r. ⌜ r ≡ codeRead set (now (s .entry)) ⌝ }
+{
+    match symbol_or_null_at(set, s, 0, 0x38b) {
+        Token::Value(code) => {
+            let size = super::writing::symbol_size(set);
+            let left = left_over(set, s.len(), size);
+            if left == TEXT_WRONG {
+                return code_is(TEXT_WRONG, size, 0);
+            }
+            if left == TEXT_SHORT {
+                return code_is(TEXT_SHORT, s.len(), 0);
+            }
+            code_is(DONE, 0, code)
+        }
+        Token::Wrong(p) => code_is(TEXT_WRONG, p, 0),
+        Token::Short => code_is(TEXT_SHORT, s.len(), 0),
+    }
+}
