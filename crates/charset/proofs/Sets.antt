@@ -3,9 +3,9 @@ use Prim.Native.Nat.{ℕ, zero, suc, _+_, _-_, _*_, _≤_, _<_}
 use mathlib.Core.List.{List, [], _∷_, _++_}
 use mathlib.Core.Path.{_≡_, refl, ap, _∙_}
 use native.Mathlib.Omega.{arith}
-use Rattle.format.specs.Format.{value, other, Format, first, second}
+use Rattle.format.specs.Format.{value, other, wrong, Format, first, second, unit}
 use Rattle.format.specs.Numeral.{Range}
-use Rattle.format.proofs.Delimited.{Delimited, Fixed}
+use Rattle.format.proofs.Delimited.{Fixed, unit-alone, mapped-wrong}
 use Rattle.format.proofs.Unit.{unit-below, unit-above}
 use Rattle.charset.specs.declared.Charset.{Charset}
 use Rattle.charset.specs.declared.Charset.the-variants.{Fsw, Swu}
@@ -18,6 +18,8 @@ use Rattle.charset.proofs.Keys.{number-delimited, key-delimited, null-o
 pub record LawfulTokens (t : Tokens) : Type 0 where
   pub marker : (lo hi : ℕ) → lo ≤ hi → hi ≤ 4 → Fixed (t .unit) (t .markerSize) (t .marker lo hi)
   pub range : (lo hi m : ℕ) → t .marker lo hi .Valid m → Range lo hi m
+  -- a marker is one unit
+  pub alone : (lo hi : ℕ) (text rest : List ℕ) → t .marker lo hi .read text ≡ wrong rest → ⊥
   pub symbol : (top : ℕ) → 0x100 ≤ top → top ≤ 0x38b → Fixed (t .unit) (t .symbolSize) (t .symbol top)
   pub symbolOrNull : (top : ℕ) → 0x100 ≤ top → top ≤ 0x38b → Fixed (t .unit) (t .symbolSize) (t .symbolOrNull top)
   pub number : Fixed (t .unit) (t .numberSize) (t .number)
@@ -43,6 +45,7 @@ pub fsw-lawful : LawfulTokens fsw
 fsw-lawful = record {
   marker = λ lo hi h k. record { delimited = letter-delimited lo hi h k; size = λ v ok. refl };
   range = λ lo hi m ok. ok;
+  alone = unit-alone 1 (byteOf markerOf) (λ m. markerByte m ∷ []);
   symbol = λ top lo hi. record { delimited = after-delimited 83 (key top) (key-delimited top lo hi); size = λ v ok. refl };
   symbolOrNull = λ top lo hi.
       record { delimited = after-delimited 83 (nullOrKey top) (null-or-key-delimited top lo hi); size = λ v ok. ap suc (null-or-key-size top v) };
@@ -60,6 +63,9 @@ pub swu-lawful : LawfulTokens swu
 swu-lawful = record {
   marker = λ lo hi h k. record { delimited = character-delimited 0x1d800 lo hi (omega arith) h (omega arith); size = λ v ok. refl };
   range = λ lo hi m ok. ok;
+  alone = λ lo hi text rest e.
+      unit-alone 4 scalarOf utf8 (0x1d800 + lo) (0x1d800 + hi) text rest
+      (mapped-wrong (λ c. c - 0x1d800) rest (unit 4 scalarOf utf8 (0x1d800 + lo) (0x1d800 + hi) .read text) e);
   symbol = λ top lo hi.
       record { delimited = character-delimited 0x40000 1 (lastCode top) (omega arith) (omega arith) (omega arith); size = λ v ok. refl };
   symbolOrNull = λ top lo hi.

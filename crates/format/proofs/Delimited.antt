@@ -90,9 +90,12 @@ unit-go v rest left false false true e = other-wrong e
 unit-go v rest left false false false e = value-wrong e
 
 -- one unit is never wrong further on
+pub unit-alone : (w : ℕ) (of : List ℕ → ℕ) (to : ℕ → List ℕ) (lo hi : ℕ) (text rest : List ℕ) → unit w of to lo hi .read text ≡ wrong rest → ⊥
+unit-alone w of to lo hi text rest e =
+    unit-go (of (take w text)) rest (drop w text) (ltb (length text) w) (ltb (of (take w text)) lo) (ltb hi (of (take w text))) e
+
 pub unit-firm : (w : ℕ) (of : List ℕ → ℕ) (to : ℕ → List ℕ) (lo hi : ℕ) (text rest : List ℕ) → unit w of to lo hi .read text ≡ wrong rest → length rest < length text
-unit-firm w of to lo hi text rest e =
-    absurd (unit-go (of (take w text)) rest (drop w text) (ltb (length text) w) (ltb (of (take w text)) lo) (ltb hi (of (take w text))) e)
+unit-firm w of to lo hi text rest e = absurd (unit-alone w of to lo hi text rest e)
 
 either-firm : {A B : Type 0} (f : Format A) (g : Format B) (text rest : List ℕ) → (f .read text ≡ wrong rest → length rest < length text) → (g .read text ≡ wrong rest → length rest < length text)
     → (r : Answer A) (q : Answer B) → f .read text ≡ r → g .read text ≡ q → orElse r q ≡ wrong rest → length rest < length text

@@ -11,19 +11,13 @@ use native.Mathlib.Omega.{arith}
 use borrow.Author.Tests.{eq-eqb, ne-eqb, lt-ltb, le-ltb, ltb-true, ltb-false}
 use Rattle.format.specs.Format.{Answer, value, other, wrong, short, Format, choose, first, second, sequence, mapped, optional, maybe, end, endRead, many}
 use Rattle.format.specs.Places.{Outcome, fine, refused, unfinished, outcome, whole, reading}
-use Rattle.format.specs.Located.{Located, found, wrongAt, cut, located, locate, andThen, onFound}
+use Rattle.format.specs.Located.{Located, found, wrongAt, cut, located, locate, andThen, onFound, ended}
 use Rattle.format.proofs.Lawful.{Lawful, Says}
 use Rattle.format.proofs.Delimited.{Delimited}
 use Rattle.format.proofs.At.{sequence-at, Wronged, here, later, wronged}
 use Rattle.format.proofs.Loop.{many-on, many-done, many-bad, many-cut, many-end}
 
--- what is left to a text of size bytes, read in units of w, where a format ends
-abbrev pub ended : {A : Type 0} → ℕ → ℕ → Located A → Outcome A
-ended w size (found v i) = choose (eqb i size) (fine v) (choose (ltb size (i + w)) unfinished (refused i))
-ended w size (wrongAt p) = refused p
-ended w size cut = unfinished
-
-pub onFine : {A B : Type 0} → (A → B) → Outcome A → Outcome B
+unfoldable pub onFine : {A B : Type 0} → (A → B) → Outcome A → Outcome B
 onFine to (fine a) = fine (to a)
 onFine to (refused p) = refused p
 onFine to unfinished = unfinished
@@ -124,6 +118,17 @@ module _ {A B : Type 0} (f : Format A) (g : A → Format B) (s : List ℕ) (at :
 
   pub optional-short : at < length s → f .read (drop at s) ≡ short → locate (optional (sequence f g)) s at ≡ cut
   optional-short h e = optional-cut (sequence f g) s at h (ap (λ r. first r then) e)
+
+-- An empty text.
+pub locate-empty : {A : Type 0} (f : Format A) (s : List ℕ) → [] ≡ s → f .read [] ≡ short → locate f s 0 ≡ cut
+unfolding locate
+locate-empty f s e o = ap (located (length s) 0) (ap (f .read) (sym e) ∙ o)
+
+pub optional-empty : {A B : Type 0} (f : Format A) (g : A → Format B) (s : List ℕ) → [] ≡ s → f .read [] ≡ short → locate (optional (sequence f g)) s 0 ≡ found none 0
+unfolding locate
+optional-empty {A = A} {B = B} f g s e o =
+    ap (λ u. located (length u) 0 (optional (sequence f g) .read u)) (sym e)
+    ∙ ap (λ r. located {A = Option (A × B)} 0 0 (maybe none [] (first r λ a rest. second (λ b. (a, b)) rest (g a .read rest)) λ p left. value (some p) left)) o
 
 -- One or more, from what zero or more find.
 abbrev pub oneOrMore : {A : Type 0} → ℕ → Located (List A) → Located (A × List A)

@@ -1,8 +1,10 @@
 -- What a function that reads a format at an offset of a text has to tell.
-use Prim.Native.Nat.{ℕ, _-_}
+use Prim.Native.Nat.{ℕ, _+_, _-_}
 use mathlib.Core.List.{List}
+use lib.Dec.{eqb, ltb}
 use lib.ListN.{length, drop}
-use Rattle.format.specs.Format.{Answer, value, other, wrong, short, Format}
+use Rattle.format.specs.Format.{Answer, value, other, wrong, short, Format, choose}
+use Rattle.format.specs.Places.{Outcome, fine, refused, unfinished}
 
 -- a value and the offset after it; the offset of the first unit that is not allowed; or that the text ends too soon
 pub data Located (A : Type 0) : Type 0 where
@@ -29,3 +31,9 @@ abbrev pub onFound : {A B : Type 0} → (A → B) → Located A → Located B
 onFound to (found a i) = found (to a) i
 onFound to (wrongAt p) = wrongAt p
 onFound to cut = cut
+
+-- a format and then the end of a text of size bytes, which is read in units of w
+abbrev pub ended : {A : Type 0} → ℕ → ℕ → Located A → Outcome A
+ended w size (found v i) = choose (eqb i size) (fine v) (choose (ltb size (i + w)) unfinished (refused i))
+ended w size (wrongAt p) = refused p
+ended w size cut = unfinished

@@ -5,9 +5,9 @@ use mathlib.Core.List.{List}
 use lib.ListN.{length}
 use native.Mathlib.Omega.{arith}
 use Rattle.format.specs.Places.{Outcome, fine, refused, unfinished}
-use Rattle.format.specs.Located.{Located, found, wrongAt, cut, locate}
+use Rattle.format.specs.Located.{Located, found, wrongAt, cut, locate, ended}
 use Rattle.format.proofs.Delimited.{Fixed}
-use Rattle.format.proofs.Ends.{ended, reading-at}
+use Rattle.format.proofs.Ends.{reading-at}
 use Rattle.charset.specs.declared.Charset.{Charset}
 use Rattle.charset.specs.Tokens.{tokens, lastPunctuation}
 use Rattle.charset.proofs.Sets.{lawful}

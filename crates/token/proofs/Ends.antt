@@ -9,8 +9,8 @@ use native.Mathlib.Omega.{arith}
 use borrow.Author.Tests.{eq-eqb, ne-eqb, lt-ltb, le-ltb, eqb-true, eqb-false, ltb-true, ltb-false}
 use Rattle.format.specs.Format.{choose}
 use Rattle.format.specs.Places.{Outcome, fine, refused, unfinished, reading}
-use Rattle.format.specs.Located.{Located, found, wrongAt, cut, locate}
-use Rattle.format.proofs.Ends.{ended, reading-at}
+use Rattle.format.specs.Located.{Located, found, wrongAt, cut, locate, ended}
+use Rattle.format.proofs.Ends.{reading-at}
 use Rattle.charset.specs.declared.Charset.{Charset}
 use Rattle.charset.specs.Tokens.{tokens}
 use Rattle.token.specs.Ends.{leftOver}

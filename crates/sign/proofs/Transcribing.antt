@@ -1,0 +1,180 @@
+-- A sign that was read into arrays lies in them, so that writing them writes the sign.
+use Prim.Native.Nat.{ℕ, zero, suc, _≤_, _<_}
+use mathlib.Core.List.{List, [], _∷_, _++_, map}
+use mathlib.Core.Path.{_≡_, refl, sym, ap, _∙_}
+use mathlib.Core.Bool.{Bool, true, false}
+use mathlib.Core.Logic.{⊎-elim}
+use lib.Dec.{ltb}
+use lib.ListN.{length, getD, List·getD-map, List·getD-append}
+use lib.Seq.{ext-getD, getD-at}
+use native.Mathlib.Omega.{arith}
+use native.Mathlib.Nat.{eq-or-lt-of-le}
+use borrow.Author.Tests.{ltb-false}
+use Rattle.format.specs.Format.{choose}
+use Rattle.format.specs.Places.{Outcome, fine, refused, unfinished}
+use Rattle.charset.specs.declared.Charset.{Charset}
+use Rattle.charset.specs.declared.Charset.the-variants.{Fsw, Swu}
+use Rattle.grammar.specs.Sign.{Spatial, Meaning, Valid, signText}
+use Rattle.grammar.specs.SignLaws.{readSign}
+use Rattle.grammar.proofs.SignLaws.{sign-laws}
+use Rattle.token.specs.declared.Written.{Written}
+use Rattle.token.specs.Result.{Result, refusal, done, ofOutcome, onDone}
+use Rattle.token.proofs.Answers.{Answers, answers-refused}
+use Rattle.sign.specs.declared.reader.Head.{Head}
+use Rattle.sign.specs.Reading.{withinLimits, signOf, padded}
+use Rattle.sign.specs.Inner.{headOf, HoldsSymbols, ReadInto}
+use Rattle.sign.specs.Arrays.{upto, at, symbolAt, meaningIn}
+use Rattle.sign.specs.Transcription.{otherSet, transcription, TranscriptionLaws}
+use Rattle.sign.proofs.Filling.{padded-length}
+use Rattle.sign.proofs.Readings.{Known, not-read, was-read, known}
+use Rattle.sign.proofs.Upto.{upto-length}
+
+upto-at : {A : Type 0} (g : ℕ → A) (n i : ℕ) (d : A) → i < n → getD (upto g n) i d ≡ g i
+unfolding upto
+upto-at g zero i d h = absurd (omega arith)
+upto-at g (suc n) i d h =
+    ⊎-elim
+    (λ e. ap (λ j. getD (upto g n ++ (g n ∷ [])) j d) e ∙ getD-at (upto g n) (g n) [] d n (upto-length g n) ∙ ap g (sym e))
+    (λ k. List·getD-append (upto g n) (g n ∷ []) d i (rw (upto-length g n) k) ∙ upto-at g n i d k)
+    (eq-or-lt-of-le (last n i h))
+  where
+    last : (n i : ℕ) → i < suc n → i ≤ n
+    last n i h = omega arith
+
+-- the first values of a function are a list where they are its values
+upto-is : {A : Type 0} (g : ℕ → A) (l : List A) (d : A) → ((i : ℕ) → i < length l → g i ≡ getD l i d) → upto g (length l) ≡ l
+upto-is g l d same =
+    let e = upto-length g (length l) in
+    ext-getD d (upto g (length l)) l e (λ i h. let k : i < length l = omega arith in upto-at g (length l) i d k ∙ same i k)
+
+padded-at : (k : ℕ) (l : List ℕ) (i : ℕ) → i < length l → length l ≤ k → getD (padded k l) i 0 ≡ getD l i 0
+unfolding padded
+padded-at zero l i h n = absurd (omega arith)
+padded-at (suc k) [] i h n = absurd (omega arith)
+padded-at (suc k) (v ∷ l) zero h n = refl
+padded-at (suc k) (v ∷ l) (suc i) h n = padded-at k l i (omega arith) (omega arith)
+
+map-length : {A : Type 0} (of : A → ℕ) (l : List A) → length (map of l) ≡ length l
+map-length of [] = refl
+map-length of (a ∷ l) = ap suc (map-length of l)
+
+abbrev noSymbol : Spatial
+noSymbol = record { code = 0; x = 0; y = 0 }
+
+-- the value at a place of an array that holds a part of each symbol
+part-at : (of : Spatial → ℕ) → of noSymbol ≡ 0 → (l : List Spatial) (array : List ℕ) → array ≡ padded 64 (map of l) → length l ≤ 64 → (i : ℕ) → i < length l
+    → at array i ≡ of (getD l i noSymbol)
+part-at of z l array e n i h =
+    let k = map-length of l in
+    ap (λ a. getD a i 0) e
+    ∙ padded-at 64 (map of l) i (omega arith) (omega arith)
+    ∙ ap (getD (map of l) i) (sym z)
+    ∙ List·getD-map of l i noSymbol
+
+-- within the limits, and valid
+pub record Within (m : Meaning) : Type 0 where
+  pub prefix : length (m .prefix) ≤ 32
+  pub symbols : length (m .symbols) ≤ 64
+  pub valid : Valid m
+
+within-go : (m k : Meaning) (a b : Bool) → ltb 32 (length (k .prefix)) ≡ a → ltb 64 (length (k .symbols)) ≡ b → Valid k
+    → choose a (refusal 3 0) (choose b (refusal 4 0) (done k)) ≡ done m → Within m
+within-go m k true b p q ok e = absurd (let z : _≡_ {A = ℕ} 0 1 = cc in omega arith)
+within-go m k false true p q ok e = absurd (let z : _≡_ {A = ℕ} 0 1 = cc in omega arith)
+within-go m k false false p q ok e =
+    let same : k ≡ m = cc in
+    rw same at (within k (ltb-false 32 (length (k .prefix)) p) (ltb-false 64 (length (k .symbols)) q) ok)
+  where
+    within : (k : Meaning) → length (k .prefix) ≤ 32 → length (k .symbols) ≤ 64 → Valid k → Within k
+    within k a b ok = record { prefix = a; symbols = b; valid = ok }
+
+outcome-within : (set : Charset) (s : List ℕ) (o : Outcome Meaning) (m : Meaning) → readSign set s ≡ o → withinLimits (ofOutcome (length s) o) ≡ done m → Within m
+outcome-within set s (fine k) m q e =
+    within-go m k (ltb 32 (length (k .prefix))) (ltb 64 (length (k .symbols))) refl refl (sign-laws set .writes s k q .0) e
+outcome-within set s (refused p) m q e = absurd (let z : _≡_ {A = ℕ} 0 1 = cc in omega arith)
+outcome-within set s unfinished m q e = absurd (let z : _≡_ {A = ℕ} 0 1 = cc in omega arith)
+
+pub sign-within : (set : Charset) (s : List ℕ) (m : Meaning) → signOf set s ≡ done m → Within m
+unfolding signOf
+sign-within set s m e = outcome-within set s (readSign set s) m refl e
+
+-- what was read is the text
+reads-go : (set : Charset) (s : List ℕ) (o : Outcome Meaning) (m : Meaning) → readSign set s ≡ o → withinLimits (ofOutcome (length s) o) ≡ done m → s ≡ signText set m
+reads-go set s (fine k) m q e = sign-laws set .writes s k q .1 ∙ ap (signText set) (same (ltb 32 (length (k .prefix))) (ltb 64 (length (k .symbols))) e)
+  where
+    same : (a b : Bool) → choose a (refusal 3 0) (choose b (refusal 4 0) (done k)) ≡ done m → k ≡ m
+    same true b e = absurd (let z : _≡_ {A = ℕ} 0 1 = cc in omega arith)
+    same false true e = absurd (let z : _≡_ {A = ℕ} 0 1 = cc in omega arith)
+    same false false e = cc
+reads-go set s (refused p) m q e = absurd (let z : _≡_ {A = ℕ} 0 1 = cc in omega arith)
+reads-go set s unfinished m q e = absurd (let z : _≡_ {A = ℕ} 0 1 = cc in omega arith)
+
+pub sign-reads : (set : Charset) (s : List ℕ) (m : Meaning) → signOf set s ≡ done m → s ≡ signText set m
+unfolding signOf
+sign-reads set s m e = reads-go set s (readSign set s) m refl e
+
+module _ (set : Charset) (s : List ℕ) (h : Head) (array codes xs ys : List ℕ) (v : ReadInto set s h array codes xs ys) (z : h .number ≡ 0) where
+  abbrev lying : Meaning
+  lying = meaningIn (h .marker) (h .«max_x») (h .«max_y») (h .«prefix_count») (h .«symbol_count») array codes xs ys
+
+  -- what a call that writes the sign has to know
+  pub record Lies : Type 0 where
+    pub meaning : Meaning
+    pub reads : signOf set s ≡ done meaning
+    pub same : lying ≡ meaning
+    pub array-length : length array ≡ 32
+    pub codes-length : length codes ≡ 64
+    pub xs-length : length xs ≡ 64
+    pub ys-length : length ys ≡ 64
+    pub prefix-most : h .«prefix_count» ≤ 32
+    pub symbols-most : h .«symbol_count» ≤ 64
+    pub valid : Valid lying
+
+  lies-go : Known set s h array codes xs ys → Lies
+  lies-go (not-read q n) = absurd (omega arith)
+  lies-go (was-read m q k a) =
+      let w = sign-within set s m q in
+      let p : h .«prefix_count» ≡ length (m .prefix) = ap (λ k. k .«prefix_count») k in
+      let n : h .«symbol_count» ≡ length (m .symbols) = ap (λ k. k .«symbol_count») k in
+      let x : upto (at array) (h .«prefix_count») ≡ m .prefix =
+      ap (upto (at array)) p ∙ upto-is (at array) (m .prefix) 0 (λ i j. ap (λ l. getD l i 0) (a .0) ∙ padded-at 32 (m .prefix) i j (w .prefix)) in
+      let y : upto (symbolAt codes xs ys) (h .«symbol_count») ≡ m .symbols =
+      ap (upto (symbolAt codes xs ys)) n
+      ∙ upto-is (symbolAt codes xs ys) (m .symbols) noSymbol (λ i j r.
+      record {
+        code = part-at (λ s. s .code) refl (m .symbols) codes (a .1 .0) (w .symbols) i j r;
+        x = part-at (λ s. s .x) refl (m .symbols) xs (a .1 .1 .0) (w .symbols) i j r;
+        y = part-at (λ s. s .y) refl (m .symbols) ys (a .1 .1 .1) (w .symbols) i j r;
+      }) in
+      let same : lying ≡ m = λ r. record { prefix = x r; marker = k r .marker; x = k r .«max_x»; y = k r .«max_y»; symbols = y r } in
+      record {
+        meaning = m;
+        reads = q;
+        same = same;
+        array-length = ap length (a .0) ∙ padded-length 32 (m .prefix);
+        codes-length = ap length (a .1 .0) ∙ padded-length 64 (map (λ s. s .code) (m .symbols));
+        xs-length = ap length (a .1 .1 .0) ∙ padded-length 64 (map (λ s. s .x) (m .symbols));
+        ys-length = ap length (a .1 .1 .1) ∙ padded-length 64 (map (λ s. s .y) (m .symbols));
+        prefix-most = let u = w .prefix in omega arith;
+        symbols-most = let u = w .symbols in omega arith;
+        valid = rw same (w .valid);
+      }
+
+  pub lies : Lies
+  lies = lies-go (known set s h array codes xs ys v)
+
+  pub transcribed : (o p : List ℕ) (r : Written) (other : Charset) → other ≡ otherSet set → Answers o (done (signText other lying)) r p → Answers o (transcription set s) r p
+  unfolding transcription
+  transcribed o p r other e a =
+      let q : done (signText other lying) ≡ onDone (signText (otherSet set)) (signOf set s) =
+      (λ i. done (signText (e i) (lies .same i))) ∙ ap (onDone (signText (otherSet set))) (sym (lies .reads)) in
+      rw (← q) a
+
+pub transcribed-refused : (set : Charset) (s : List ℕ) (h : Head) (array codes xs ys o : List ℕ) → ReadInto set s h array codes xs ys → (h .number ≡ 0 → ⊥)
+    → Answers o (transcription set s) (record { number = h .number; place = h .place; length = 0 }) o
+unfolding transcription
+transcribed-refused set s h array codes xs ys o v z = go (known set s h array codes xs ys v)
+  where
+    go : Known set s h array codes xs ys → Answers o (onDone (signText (otherSet set)) (signOf set s)) (record { number = h .number; place = h .place; length = 0 }) o
+    go (not-read q n) = answers-refused o (ap (onDone (signText (otherSet set))) q)
+    go (was-read m q k a) = absurd (z (ap (λ k. k .number) k))

@@ -1,0 +1,4 @@
+pub mod Reading
+pub mod Transcription
+pub mod Inner
+pub mod Arrays
