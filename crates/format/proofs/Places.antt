@@ -11,7 +11,7 @@ use native.Mathlib.Omega.{arith}
 use native.Mathlib.Nat.{suc-mul, mul-one, mul-le-mul-right, lt-of-mul-lt-mul-right}
 use borrow.Author.Tests.{ltb-true, ltb-false}
 use Rattle.format.specs.Format.{Answer, value, other, wrong, short, Format, sequence, mapped, end}
-use Rattle.format.specs.Places.{whole, Whole, Begins, Formed, Outcome, fine, refused, unfinished, outcome, reading, Refused, Unfinished, Means}
+use Rattle.format.specs.Places.{whole, Whole, Begins, Formed, Outcome, fine, refused, unfinished, outcome, reading, Refused, Unfinished, Means, ByBytes}
 use Rattle.format.proofs.Lawful.{Strange, Bad, Cut, Says, Lawful}
 use Rattle.format.proofs.Sequence.{sequence-lawful}
 use Rattle.format.proofs.Parts.{mapped-lawful, end-lawful}
@@ -159,7 +159,7 @@ module _ {A : Type 0} (f : Format A) (l : Lawful 1 f) (ready : (v : A) → f .Va
       let z : take p text ≡ take (p + 1) text = take-all p text k ∙ sym (take-all (p + 1) text (omega arith)) in
       absurd (n (rw z at b))
 
-  pub wrong-exactly : (text : List ℕ) (p : ℕ) → (reading 1 f text ≡ refused p) ↔ (Begins f (take p text) × (Begins f (take (p + 1) text) → ⊥))
+  wrong-exactly : (text : List ℕ) (p : ℕ) → (reading 1 f text ≡ refused p) ↔ (Begins f (take p text) × (Begins f (take (p + 1) text) → ⊥))
   wrong-exactly text p = (
     λ e. let m = exactly 1 f l ready text (refused p) .0 e in (m .begins, m .never),
     λ m. exactly 1 f l ready text (refused p) .1
@@ -172,7 +172,7 @@ module _ {A : Type 0} (f : Format A) (l : Lawful 1 f) (ready : (v : A) → f .Va
         }),
   )
 
-  pub short-exactly : (text : List ℕ) → (reading 1 f text ≡ unfinished) ↔ (Begins f text × (Formed f text → ⊥))
+  short-exactly : (text : List ℕ) → (reading 1 f text ≡ unfinished) ↔ (Begins f text × (Formed f text → ⊥))
   short-exactly text = (
     λ e. let m = exactly 1 f l ready text unfinished .0 e in
         let k : m .units * 1 ≡ length text = omega (arith, m .inside, m .less) in
@@ -186,3 +186,6 @@ module _ {A : Type 0} (f : Format A) (l : Lawful 1 f) (ready : (v : A) → f .Va
           unformed = m .1;
         }),
   )
+
+  pub by-bytes : ByBytes f
+  by-bytes = record { wrong = wrong-exactly; short = short-exactly }

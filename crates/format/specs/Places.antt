@@ -2,6 +2,7 @@
 use Prim.Native.Nat.{ℕ, _+_, _-_, _*_, _≤_, _<_}
 use mathlib.Core.Path.{_≡_}
 use mathlib.Core.List.{List, _++_}
+use mathlib.Core.Logic.{_↔_}
 use lib.ListN.{length, take}
 use Rattle.format.specs.Format.{Answer, value, other, wrong, short, Format, sequence, mapped, end}
 
@@ -64,3 +65,9 @@ abbrev pub Means : {A : Type 0} → ℕ → Format A → List ℕ → Outcome A 
 Means w f text (fine v) = f .Valid v × (text ≡ f .write v)
 Means w f text (refused p) = Refused w f text p
 Means w f text unfinished = Unfinished w f text
+
+-- The same where a unit is a byte, in the words of document 01: the place of 1 is the length of the longest beginning
+-- that some well-formed text shares, and a text that is such a beginning but not well-formed is 2.
+pub record ByBytes {A : Type 0} (f : Format A) : Type 0 where
+  pub wrong : (text : List ℕ) (p : ℕ) → (reading 1 f text ≡ refused p) ↔ (Begins f (take p text) × (Begins f (take (p + 1) text) → ⊥))
+  pub short : (text : List ℕ) → (reading 1 f text ≡ unfinished) ↔ (Begins f text × (Formed f text → ⊥))

@@ -4,7 +4,7 @@ use mathlib.Core.Path.{_≡_}
 use mathlib.Core.List.{List}
 use mathlib.Core.Logic.{_↔_}
 use lib.ListN.{length}
-use Rattle.format.specs.Places.{Outcome, fine, reading, Means}
+use Rattle.format.specs.Places.{Outcome, fine, reading, Means, ByBytes}
 use Rattle.charset.specs.declared.Charset.{Charset}
 use Rattle.charset.specs.declared.Charset.the-variants.{Fsw, Swu}
 use Rattle.charset.specs.Tokens.{tokens}
@@ -18,6 +18,8 @@ pub record SignLaws (set : Charset) : Type 0 where
   -- reading what was written gives the sign back, and writing what was read gives the text back
   pub reads : (m : Meaning) → Valid m → readSign set (signText set m) ≡ fine m
   pub writes : (text : List ℕ) (m : Meaning) → readSign set text ≡ fine m → Valid m × (text ≡ signText set m)
+  -- so a text has one meaning
+  pub one : (m k : Meaning) → Valid m → Valid k → signText set m ≡ signText set k → m ≡ k
   -- the law of places: each outcome is given exactly where it holds (see Means)
   pub places : (text : List ℕ) (o : Outcome Meaning) → (readSign set text ≡ o) ↔ Means (tokens set .unit) (sign set) text o
 
@@ -47,3 +49,7 @@ pub record Longest (set : Charset) : Type 0 where
   pub prefix : length (sign .prefix) ≡ 32
   pub symbols : length (sign .symbols) ≡ 64
   pub size : length (signText set sign) ≡ longest set
+
+-- in FSW, byte by byte
+abbrev pub FswPlaces : Type 0
+FswPlaces = ByBytes (sign Fsw)

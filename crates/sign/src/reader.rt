@@ -39,6 +39,16 @@ pub struct Count {
     pub count: usize,
 }
 
+fn counted(number: u8, place: usize, count: usize) -> Count
+    ensures { λ r. ⌜ r ≡ record { number = number; place = place; count = count } ⌝ }
+{
+    Count {
+        number: number,
+        place: place,
+        count: count,
+    }
+}
+
 // Prefix symbols as far as they go: all are counted, and the first 32 kept.
 fn prefix_into(set: Charset, s: &[u8], at: usize, codes: &mut [u16; 32]) -> Count
     requires { ⌜ (at ≤ length (now s)) × (now codes ≡ zeros 32) ⌝ }
@@ -56,32 +66,16 @@ fn prefix_into(set: Charset, s: &[u8], at: usize, codes: &mut [u16; 32]) -> Coun
             }
             Token::Wrong(p) => {
                 if p == i {
-                    return Count {
-                        number: DONE,
-                        place: i,
-                        count: n,
-                    };
+                    return counted(DONE, i, n);
                 }
-                return Count {
-                    number: TEXT_WRONG,
-                    place: p,
-                    count: 0,
-                };
+                return counted(TEXT_WRONG, p, 0);
             }
             Token::Short => {
-                return Count {
-                    number: TEXT_SHORT,
-                    place: s.len(),
-                    count: 0,
-                };
+                return counted(TEXT_SHORT, s.len(), 0);
             }
         }
     }
-    Count {
-        number: DONE,
-        place: i,
-        count: n,
-    }
+    counted(DONE, i, n)
 }
 
 // Spatial symbols as far as they go: all are counted, and the first 64 kept.
@@ -110,32 +104,16 @@ fn symbols_into(
             }
             Placed::Wrong(p) => {
                 if p == i {
-                    return Count {
-                        number: DONE,
-                        place: i,
-                        count: n,
-                    };
+                    return counted(DONE, i, n);
                 }
-                return Count {
-                    number: TEXT_WRONG,
-                    place: p,
-                    count: 0,
-                };
+                return counted(TEXT_WRONG, p, 0);
             }
             Placed::Short => {
-                return Count {
-                    number: TEXT_SHORT,
-                    place: s.len(),
-                    count: 0,
-                };
+                return counted(TEXT_SHORT, s.len(), 0);
             }
         }
     }
-    Count {
-        number: DONE,
-        place: i,
-        count: n,
-    }
+    counted(DONE, i, n)
 }
 
 // What a reading says beside the arrays that it was lent.

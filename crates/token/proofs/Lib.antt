@@ -8,3 +8,4 @@ pub mod CodeReads
 pub mod Writes
 pub mod Answers
 pub mod Codes
+pub mod CodeLaws

@@ -3,4 +3,5 @@ pub mod Result
 pub mod Token
 pub mod Ends
 pub mod Codes
+pub mod CodeLaws
 pub mod Wrote

@@ -49,20 +49,32 @@ loop-again c = symbols-on _ _ _ _ _ _ _ _ (c .before .before .before .before .be
 enum-known-p : tie.Need-enum-known-p Inv-loop μ-loop
 enum-known-p c = search needs
 
+counted-requires : tie.Need-counted-requires Inv-loop μ-loop
+counted-requires c κs = search needs
+
 returns : tie.Need-returns Inv-loop μ-loop
-returns c = symbols-stop _ _ _ _ _ _ _ _ (c .before .before .before .before .before .before .loop .inv) _ (sym (c .before .before .before .before .spatial-at .ensures) ∙ c .before .before .p .given .1) (c .if1 .taken)
+returns c = rw (c .counted .ensures) (symbols-stop _ _ _ _ _ _ _ _ (c .before .before .before .before .before .before .before .loop .inv) _ (sym (c .before .before .before .before .before .spatial-at .ensures) ∙ c .before .before .before .p .given .1) (c .before .if1 .taken))
+
+counted-requires-2 : tie.Need-counted-requires-2 Inv-loop μ-loop
+counted-requires-2 c κs = search needs
 
 returns-2 : tie.Need-returns-2 Inv-loop μ-loop
-returns-2 c = symbols-bad _ _ _ _ _ _ _ _ (c .before .before .before .before .before .before .loop .inv) _ (sym (c .before .before .before .before .spatial-at .ensures) ∙ c .before .before .p .given .1) (c .if1 .left)
+returns-2 c = rw (c .counted2 .ensures) (symbols-bad _ _ _ _ _ _ _ _ (c .before .before .before .before .before .before .before .loop .inv) _ (sym (c .before .before .before .before .before .spatial-at .ensures) ∙ c .before .before .before .p .given .1) (c .before .if1 .left))
 
 enum-told : tie.Need-enum-told Inv-loop μ-loop
 enum-told c = search needs
 
+counted-requires-3 : tie.Need-counted-requires-3 Inv-loop μ-loop
+counted-requires-3 c κs = search needs
+
 returns-3 : tie.Need-returns-3 Inv-loop μ-loop
-returns-3 c = symbols-cut _ _ _ _ _ _ _ _ (c .before .before .before .before .loop .inv) (c .before .before .before .loop-test .taken) (sym (c .before .before .spatial-at .ensures) ∙ c .enum-told .given .1)
+returns-3 c = rw (c .counted3 .ensures) (symbols-cut _ _ _ _ _ _ _ _ (c .before .before .before .before .before .loop .inv) (c .before .before .before .before .loop-test .taken) (sym (c .before .before .before .spatial-at .ensures) ∙ c .before .enum-told .given .1))
+
+counted-requires-4 : tie.Need-counted-requires-4 Inv-loop μ-loop
+counted-requires-4 c κs = search needs
 
 returns-4 : tie.Need-returns-4 Inv-loop μ-loop
-returns-4 c = symbols-end _ _ _ _ _ _ _ _ (c .before .loop .inv) (c .loop-test .left)
+returns-4 c = rw (c .counted4 .ensures) (symbols-end _ _ _ _ _ _ _ _ (c .before .before .loop .inv) (c .before .loop-test .left))
 
 pub symbols-into-spec : {M : Type 1} → statement M
 symbols-into-spec =
@@ -82,8 +94,12 @@ symbols-into-spec =
     loop-less
     loop-again
     enum-known-p
+    counted-requires
     returns
+    counted-requires-2
     returns-2
     enum-told
+    counted-requires-3
     returns-3
+    counted-requires-4
     returns-4)
