@@ -3,16 +3,15 @@ use Prim.Native.Nat.{ℕ, zero, suc, _+_, _-_, _*_, _/_, _%_, _≤_, _<_, min}
 use mathlib.Core.List.{List, [], _∷_, _++_}
 use mathlib.Core.Path.{_≡_, refl, sym, ap, _∙_}
 use mathlib.Core.Logic.{_⊎_, inl, inr}
-use lib.Dec.{ltb}
 use lib.ListN.{length, drop}
 use native.Mathlib.Omega.{arith}
-use Rattle.format.specs.Format.{Answer, value, other, Format, first, second, sequence, mapped, either}
+use Rattle.format.specs.Format.{value, other, Format, first, second, sequence, mapped, either}
 use Rattle.format.specs.Numeral.{Range}
 use Rattle.format.proofs.Delimited.{Delimited, sequence-delimited, mapped-delimited, either-delimited}
 use Rattle.format.proofs.Unit.{unit-above}
-use Rattle.charset.specs.Bytes.{byteOf, digitOf, digitByte, digit, digits, byte, after}
+use Rattle.charset.specs.Bytes.{byteOf, digitOf, digitByte, digit, digits}
 use Rattle.charset.specs.Tokens.{base, turn, keyOf, partsOf, key, null, ofEither, toEither, nullOrKey, lastCode, fswNumber}
-use Rattle.charset.proofs.Coding.{by-test, digit-of-byte}
+use Rattle.charset.proofs.Coding.{digit-of-byte}
 use Rattle.charset.proofs.Units.{digits-delimited}
 
 pub number-delimited : Delimited 1 fswNumber

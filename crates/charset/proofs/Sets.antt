@@ -1,7 +1,7 @@
 -- What the grammar of a sign asks of a character set, and that both have it.
-use Prim.Native.Nat.{ℕ, zero, suc, _+_, _-_, _*_, _≤_, _<_}
+use Prim.Native.Nat.{ℕ, zero, suc, _+_, _-_, _≤_, _<_}
 use mathlib.Core.List.{List, [], _∷_, _++_}
-use mathlib.Core.Path.{_≡_, refl, ap, _∙_}
+use mathlib.Core.Path.{_≡_, refl, ap}
 use native.Mathlib.Omega.{arith}
 use Rattle.format.specs.Format.{value, other, wrong, Format, first, second, unit}
 use Rattle.format.specs.Numeral.{Range}

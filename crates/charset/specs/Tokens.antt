@@ -1,6 +1,6 @@
 -- Document 01, "Symbols and numbers": symbols, numbers and markers in both character sets.
 use Prim.Native.Nat.{ℕ, zero, suc, _+_, _-_, _*_, _/_, _%_}
-use mathlib.Core.List.{List, [], _∷_}
+use mathlib.Core.List.{[], _∷_}
 use mathlib.Core.Logic.{_⊎_, inl, inr}
 use Rattle.format.specs.Format.{Format, sequence, mapped, either}
 use Rattle.format.specs.Numeral.{Range}

@@ -5,7 +5,7 @@ ghost use mathlib.Core.Path.{_≡_};
 ghost use Prim.Native.Nat.{_+_, _^_, _≤_};
 ghost use lib.ListN.{length};
 ghost use Rattle.charset.specs.Tokens.{fsw, fswNumber};
-ghost use Rattle.grammar.specs.Sign.{point, head, spatial, prefixSymbol};
+ghost use Rattle.grammar.specs.Sign.{head, spatial, prefixSymbol};
 ghost use Rattle.fast.specs.Fast.{digitOr, baseIn, turnIn, numberIn, codeIn, SureValue, Sure, SureAfter};
 use token::reading::marker_of;
 

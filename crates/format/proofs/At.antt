@@ -1,11 +1,11 @@
 -- Laws of formats read at an offset: a function that reads part by part only cites these.
-use Prim.Native.Nat.{ℕ, zero, suc, _+_, _-_, _*_, _≤_, _<_}
-use mathlib.Core.List.{List, [], _∷_, _++_}
+use Prim.Native.Nat.{ℕ, _+_, _-_, _≤_, _<_}
+use mathlib.Core.List.{List, [], _++_}
 use mathlib.Core.Path.{_≡_, refl, sym, ap, _∙_}
 use mathlib.Core.Bool.{Bool, true, false}
 use mathlib.Core.Logic.{_⊎_, inl, inr}
 use lib.Dec.{ltb}
-use lib.ListN.{length, drop, take, length-drop, length-append, length-take, take-append-drop, drop-of-length-le}
+use lib.ListN.{length, drop, take, length-drop, length-append, take-append-drop, drop-of-length-le}
 use lib.Seq.{drop-at, drop-drop}
 use native.Mathlib.Omega.{arith}
 use borrow.Author.Tests.{ltb-true, ltb-false}

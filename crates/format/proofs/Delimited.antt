@@ -8,7 +8,7 @@ use lib.Dec.{ltb}
 use lib.ListN.{length, take, drop, length-append}
 use native.Mathlib.Omega.{arith}
 use Rattle.format.specs.Format.{Answer, value, other, wrong, short, Format, choose, first, second, unit, sequence, mapped, either, orElse}
-use Rattle.format.proofs.Lawful.{Lawful, Says, Bad}
+use Rattle.format.proofs.Lawful.{Lawful, Says}
 use Rattle.format.proofs.Sequence.{sequence-lawful}
 use Rattle.format.proofs.Parts.{mapped-lawful, either-lawful}
 

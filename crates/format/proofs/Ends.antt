@@ -1,16 +1,16 @@
 -- A whole text read from its start: optional parts, what follows them, and the end.
-use Prim.Native.Nat.{ℕ, zero, suc, _+_, _-_, _≤_, _<_}
-use mathlib.Core.List.{List, [], _∷_, _++_}
+use Prim.Native.Nat.{ℕ, _+_, _-_, _≤_, _<_}
+use mathlib.Core.List.{List, [], _∷_}
 use mathlib.Core.Path.{_≡_, refl, sym, ap, _∙_}
 use mathlib.Core.Bool.{Bool, true, false}
 use mathlib.Core.Option.{Option, none, some}
 use lib.Dec.{ltb, eqb}
-use lib.ListN.{length, drop, getD, length-drop, length-append, drop-of-length-le}
+use lib.ListN.{length, drop, length-drop, length-append}
 use lib.Seq.{drop-cons}
 use native.Mathlib.Omega.{arith}
 use borrow.Author.Tests.{eq-eqb, ne-eqb, lt-ltb, le-ltb, ltb-true, ltb-false}
-use Rattle.format.specs.Format.{Answer, value, other, wrong, short, Format, choose, first, second, sequence, mapped, optional, maybe, end, endRead, many}
-use Rattle.format.specs.Places.{Outcome, fine, refused, unfinished, outcome, whole, reading}
+use Rattle.format.specs.Format.{Answer, value, other, wrong, short, Format, choose, first, second, sequence, optional, maybe, endRead, many}
+use Rattle.format.specs.Places.{Outcome, fine, refused, unfinished, outcome, reading}
 use Rattle.format.specs.Located.{Located, found, wrongAt, cut, located, locate, andThen, onFound, ended}
 use Rattle.format.proofs.Lawful.{Lawful, Says}
 use Rattle.format.proofs.Delimited.{Delimited}

@@ -1,15 +1,15 @@
 -- Zero or more of a format, read one by one: a loop only cites these.
-use Prim.Native.Nat.{ℕ, zero, suc, _+_, _-_, _≤_, _<_}
+use Prim.Native.Nat.{ℕ, _+_, _-_, _≤_, _<_}
 use mathlib.Core.List.{List, [], _∷_, _++_, append-assoc, append-nil}
 use mathlib.Core.Path.{_≡_, refl, sym, ap, _∙_}
-use lib.ListN.{length, drop, getD, length-drop, drop-of-length-le}
+use lib.ListN.{length, drop, length-drop, drop-of-length-le}
 use lib.Seq.{drop-cons}
 use native.Mathlib.Omega.{arith}
 use Rattle.format.specs.Format.{Answer, value, other, wrong, short, Format, second, maybe, many}
 use Rattle.format.specs.Located.{Located, found, wrongAt, cut, located, locate, onFound}
 use Rattle.format.proofs.Many.{step}
 use Rattle.format.proofs.Delimited.{Delimited, solid}
-use Rattle.format.proofs.At.{Got, delimited-got, wronged, here, later, Wronged, cut-reads}
+use Rattle.format.proofs.At.{delimited-got, wronged, here, later, Wronged, cut-reads}
 
 module _ {A : Type 0} (w : ℕ) (f : Format A) (d : Delimited w f) (s : List ℕ) (i : ℕ) where
   abbrev all : Located (List A)

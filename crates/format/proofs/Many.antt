@@ -1,12 +1,12 @@
 -- Zero or more of a lawful format that writes something for each value.
-use Prim.Native.Nat.{ℕ, zero, suc, _+_, _-_, _*_, _≤_, _<_}
-use mathlib.Core.List.{List, [], _∷_, _++_, append-assoc, append-nil}
-use mathlib.Core.Path.{_≡_, refl, sym, ap, _∙_}
+use Prim.Native.Nat.{ℕ, zero, suc, _+_, _-_, _≤_, _<_}
+use mathlib.Core.List.{List, [], _∷_, _++_, append-assoc}
+use mathlib.Core.Path.{_≡_, refl, ap, _∙_}
 use lib.ListN.{length, length-append}
 use native.Mathlib.Omega.{arith}
 use Rattle.format.specs.Format.{Answer, value, other, wrong, short, Format, second, maybe, run, many, Absent}
 use Rattle.format.specs.Places.{Whole, Begins}
-use Rattle.format.proofs.Lawful.{Strange, Bad, Cut, Says, Lawful, whole-append, first-bad, first-cut, second-says, absent-keeps}
+use Rattle.format.proofs.Lawful.{Says, Lawful, whole-append, first-bad, first-cut, second-says, absent-keeps}
 
 module _ {A : Type 0} (w : ℕ) (f : Format A) (l : Lawful w f) (solid : (a : A) → f .Valid a → 1 ≤ length (f .write a)) where
   abbrev h : Format (List A)

@@ -1,10 +1,10 @@
 -- A numeral is delimited where its digits are: each digit is limited to what can still become a number of the range.
-use Prim.Native.Nat.{ℕ, zero, suc, _+_, _-_, _*_, _/_, _%_, _≤_, _<_, min}
-use mathlib.Core.List.{List, [], _∷_, _++_}
-use mathlib.Core.Path.{_≡_, refl, sym, ap, _∙_}
+use Prim.Native.Nat.{ℕ, suc, _+_, _-_, _*_, _/_, _%_, _≤_, _<_, min}
+use mathlib.Core.List.{List, [], _∷_}
+use mathlib.Core.Path.{_≡_, refl, ap, _∙_}
 use native.Mathlib.Omega.{arith}
 use native.Mathlib.Nat.{mod-lt, div-add-mod', div-eq-of-lt, div-mul-le-self, mul-add-div-right, mul-add-mod-self-right, mod-eq-of-lt, mul-le-mul-right, suc-mul, lt-of-mul-lt-mul-right}
-use Rattle.format.specs.Format.{Format, sequence, mapped}
+use Rattle.format.specs.Format.{Format, sequence}
 use Rattle.format.specs.Numeral.{Range, numeral, Weights}
 use Rattle.format.proofs.Delimited.{Delimited, sequence-delimited, mapped-delimited}
 

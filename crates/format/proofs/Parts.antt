@@ -1,5 +1,5 @@
 -- Other values, an optional part, a choice, the end of the text: lawful where their parts are.
-use Prim.Native.Nat.{ℕ, zero, suc, _+_, _-_, _*_, _≤_, _<_}
+use Prim.Native.Nat.{ℕ, _+_, _-_, _≤_}
 use mathlib.Core.List.{List, [], _∷_, _++_, append-assoc, append-nil}
 use mathlib.Core.Path.{_≡_, refl, sym, ap, _∙_}
 use mathlib.Core.Bool.{Bool, true, false}
@@ -9,10 +9,10 @@ use lib.Dec.{ltb}
 use lib.ListN.{length, drop, take, length-append, take-append-drop}
 use lib.Seq.{length-take-le}
 use native.Mathlib.Omega.{arith}
-use borrow.Author.Tests.{ltb-true, ltb-false, lt-ltb, le-ltb}
-use Rattle.format.specs.Format.{Answer, value, other, wrong, short, Format, choose, first, second, mapped, maybe, stop, optional, either, orElse, end, endRead, Absent}
+use borrow.Author.Tests.{ltb-true, ltb-false, le-ltb}
+use Rattle.format.specs.Format.{Answer, value, other, wrong, short, Format, choose, first, mapped, maybe, optional, either, orElse, end, endRead, Absent}
 use Rattle.format.specs.Places.{Whole, Begins}
-use Rattle.format.proofs.Lawful.{Strange, Bad, Cut, Says, Lawful, whole-append, first-bad, first-cut, other-stays, absent-keeps}
+use Rattle.format.proofs.Lawful.{Says, Lawful, first-bad, first-cut, other-stays, absent-keeps}
 
 module _ {A B : Type 0} (w : ℕ) (f : Format A) (to : A → B) (from : B → A) (P : B → Type 0) (l : Lawful w f)
     (good : (a : A) → f .Valid a → P (to a)) (back : (a : A) → f .Valid a → from (to a) ≡ a)

@@ -1,18 +1,18 @@
 -- The law of places, once for every lawful format.
-use Prim.Native.Nat.{ℕ, zero, suc, _+_, _-_, _*_, _≤_, _<_}
-use mathlib.Core.List.{List, [], _∷_, _++_, append-assoc, append-nil}
+use Prim.Native.Nat.{ℕ, suc, _+_, _-_, _*_, _≤_, _<_}
+use mathlib.Core.List.{List, [], _++_, append-assoc, append-nil}
 use mathlib.Core.Path.{_≡_, refl, sym, ap, _∙_}
 use mathlib.Core.Bool.{Bool, true, false}
 use mathlib.Core.Logic.{_↔_}
 use lib.Dec.{ltb}
 use lib.ListN.{length, drop, take, length-append, take-append-drop}
-use lib.Seq.{take-at, take-take, take-all, take-append-seam, take-append-add, length-take-le}
+use lib.Seq.{take-at, take-take, take-all, take-append-seam}
 use native.Mathlib.Omega.{arith}
 use native.Mathlib.Nat.{suc-mul, mul-one, mul-le-mul-right, lt-of-mul-lt-mul-right}
 use borrow.Author.Tests.{ltb-true, ltb-false}
-use Rattle.format.specs.Format.{Answer, value, other, wrong, short, Format, sequence, mapped, end}
-use Rattle.format.specs.Places.{whole, Whole, Begins, Formed, Outcome, fine, refused, unfinished, outcome, reading, Refused, Unfinished, Means, ByBytes}
-use Rattle.format.proofs.Lawful.{Strange, Bad, Cut, Says, Lawful}
+use Rattle.format.specs.Format.{Answer, value, other, wrong, short, Format, sequence, end}
+use Rattle.format.specs.Places.{whole, Begins, Formed, Outcome, fine, refused, unfinished, outcome, reading, Refused, Unfinished, Means, ByBytes}
+use Rattle.format.proofs.Lawful.{Says, Lawful}
 use Rattle.format.proofs.Sequence.{sequence-lawful}
 use Rattle.format.proofs.Parts.{mapped-lawful, end-lawful}
 

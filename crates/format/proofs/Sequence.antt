@@ -1,12 +1,12 @@
 -- Sequences of lawful formats are lawful.
-use Prim.Native.Nat.{ℕ, zero, suc, _+_, _-_, _*_, _≤_, _<_}
-use mathlib.Core.List.{List, [], _∷_, _++_, append-assoc, append-nil}
-use mathlib.Core.Path.{_≡_, refl, sym, ap, _∙_}
-use lib.ListN.{length, drop, take, length-append}
+use Prim.Native.Nat.{ℕ, _+_, _-_}
+use mathlib.Core.List.{List, _++_, append-assoc}
+use mathlib.Core.Path.{_≡_, refl, ap, _∙_}
+use lib.ListN.{length-append}
 use native.Mathlib.Omega.{arith}
 use Rattle.format.specs.Format.{Answer, value, other, wrong, short, Format, first, second, sequence}
-use Rattle.format.specs.Places.{Whole, Begins}
-use Rattle.format.proofs.Lawful.{Strange, Bad, Cut, Says, Lawful, whole-append, first-bad, first-cut, second-says}
+use Rattle.format.specs.Places.{Begins}
+use Rattle.format.proofs.Lawful.{Says, Lawful, whole-append, first-bad, first-cut, second-says}
 
 module _ {A B : Type 0} (w : ℕ) (f : Format A) (g : A → Format B) (l : Lawful w f) (m : (a : A) → f .Valid a → Lawful w (g a)) where
   abbrev h : Format (A × B)

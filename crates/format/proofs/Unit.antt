@@ -1,6 +1,6 @@
 -- One unit that stands for a number of lo to hi is lawful, where of and to are inverse there.
-use Prim.Native.Nat.{ℕ, zero, suc, _+_, _-_, _*_, _≤_, _<_}
-use mathlib.Core.List.{List, [], _∷_, _++_, append-assoc, append-nil}
+use Prim.Native.Nat.{ℕ, _+_, _-_, _≤_, _<_}
+use mathlib.Core.List.{List, [], _++_}
 use mathlib.Core.Path.{_≡_, refl, sym, ap, _∙_}
 use mathlib.Core.Bool.{Bool, true, false}
 use lib.Dec.{ltb}
@@ -8,9 +8,8 @@ use lib.ListN.{length, drop, take, length-append, take-append-drop}
 use lib.Seq.{length-take-le, take-at, drop-at}
 use native.Mathlib.Omega.{arith}
 use borrow.Author.Tests.{ltb-true, ltb-false, lt-ltb, le-ltb}
-use Rattle.format.specs.Format.{Answer, value, other, wrong, short, Format, choose, within, unit}
-use Rattle.format.specs.Places.{Whole, Begins}
-use Rattle.format.proofs.Lawful.{Strange, Bad, Cut, Says, Lawful}
+use Rattle.format.specs.Format.{value, other, short, Format, choose, within, unit}
+use Rattle.format.proofs.Lawful.{Says, Lawful}
 
 -- of reads a unit as a number, and to writes it
 pub record Coding (w : ℕ) (of : List ℕ → ℕ) (to : ℕ → List ℕ) (lo hi : ℕ) : Type 0 where

@@ -1,11 +1,10 @@
 -- The sign is lawful in both character sets, with one predicate for what can be said.
-use Prim.Native.Nat.{ℕ, _+_, _≤_, _<_}
+use Prim.Native.Nat.{ℕ, _+_, _≤_}
 use mathlib.Core.List.{List, [], _∷_, _++_, append-assoc, map}
 use mathlib.Core.Path.{_≡_, refl, sym, ap, subst, _∙_}
 use mathlib.Core.Option.{Option, none, some}
-use lib.ListN.{length}
 use native.Mathlib.Omega.{arith}
-use Rattle.format.specs.Format.{Answer, value, other, Format, All, first, second, sequence, mapped, optional, many, Absent, FollowAll}
+use Rattle.format.specs.Format.{Answer, other, Format, All, first, second, sequence, optional, many, Absent, FollowAll}
 use Rattle.format.specs.Numeral.{Range}
 use Rattle.format.proofs.Lawful.{Lawful}
 use Rattle.format.proofs.Sequence.{sequence-lawful}
@@ -14,7 +13,7 @@ use Rattle.format.proofs.Many.{many-lawful}
 use Rattle.format.proofs.Delimited.{Delimited, Fixed, sequence-fixed, solid}
 use Rattle.charset.specs.declared.Charset.{Charset}
 use Rattle.charset.specs.declared.Charset.the-variants.{Fsw, Swu}
-use Rattle.charset.specs.Tokens.{Tokens, tokens, fsw, swu, lastWriting, lastLocation, lastCode}
+use Rattle.charset.specs.Tokens.{Tokens, tokens, fsw, lastWriting, lastLocation, lastCode}
 use Rattle.charset.proofs.Sets.{LawfulTokens, lawful}
 use Rattle.grammar.specs.Sign.{Spatial, Meaning, ValidSymbol, Valid, point, placed, prefixSymbol, prefixSymbols, prefix, head, spatial, signbox, parts, Parts, toSpatial, ofSpatial, toPrefix, ofPrefix, toMeaning, ofMeaning, sign}
 

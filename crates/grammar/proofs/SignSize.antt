@@ -1,19 +1,18 @@
 -- How many bytes a sign takes.
-use Prim.Native.Nat.{ℕ, zero, suc, _+_, _*_, _≤_, _<_}
+use Prim.Native.Nat.{ℕ, zero, suc, _+_, _*_, _≤_}
 use mathlib.Core.List.{List, [], _∷_, _++_, map}
-use mathlib.Core.Path.{_≡_, refl, sym, ap, _∙_}
-use mathlib.Core.Option.{Option, none, some}
-use lib.ListN.{length, replicate, length-append, length-replicate}
+use mathlib.Core.Path.{_≡_, refl, ap, _∙_}
+use lib.ListN.{length, replicate, length-append}
 use native.Mathlib.Omega.{arith}
-use native.Mathlib.Nat.{suc-mul, mul-le-mul-right}
+use native.Mathlib.Nat.{suc-mul}
 use Rattle.format.specs.Format.{Format, All, many, optional}
 use Rattle.format.specs.Numeral.{Range}
 use Rattle.format.proofs.Delimited.{Fixed}
 use Rattle.charset.specs.declared.Charset.{Charset}
 use Rattle.charset.specs.declared.Charset.the-variants.{Fsw, Swu}
 use Rattle.charset.specs.Tokens.{Tokens, tokens, lastLocation, lastCode}
-use Rattle.charset.proofs.Sets.{LawfulTokens, lawful}
-use Rattle.grammar.specs.Sign.{Spatial, Meaning, ValidSymbol, Valid, prefixSymbol, prefix, head, spatial, parts, ofSpatial, ofPrefix, ofMeaning, signText}
+use Rattle.charset.proofs.Sets.{lawful}
+use Rattle.grammar.specs.Sign.{Spatial, Meaning, ValidSymbol, Valid, prefixSymbol, prefix, head, spatial, ofSpatial, ofPrefix, signText}
 use Rattle.grammar.specs.SignLaws.{headSize, spatialSize, prefixSize, signSize, longest, Longest}
 use Rattle.grammar.proofs.Sign.{symbol-fixed, head-fixed, spatial-fixed, sound}
 

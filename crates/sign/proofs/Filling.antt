@@ -4,15 +4,12 @@ use mathlib.Core.List.{List, [], _∷_, _++_, map}
 use mathlib.Core.Path.{_≡_, refl, sym, ap, _∙_}
 use lib.ListN.{length, set, length-append}
 use native.Mathlib.Omega.{arith}
-use native.Mathlib.Numerals.{add-one}
 use Rattle.format.specs.Format.{Format, many}
 use Rattle.format.specs.Located.{Located, found, wrongAt, cut, locate}
-use Rattle.format.proofs.Delimited.{Delimited, Fixed, solid}
+use Rattle.format.proofs.Delimited.{Fixed, solid}
 use Rattle.format.proofs.At.{fixed-got}
 use Rattle.format.proofs.Loop.{Walk, walk-start, walk-on, walk-stop, walk-end, walk-bad, walk-cut}
-use Rattle.fast.specs.declared.fsw.Placed.{Placed}
 use Rattle.fast.specs.declared.fsw.Placed.the-variants.{At, Wrong, Short}
-use Rattle.sign.specs.declared.reader.Count.{Count}
 use Rattle.sign.specs.Reading.{padded, zeros}
 use Rattle.part.specs.Placed.{toldPlaced, placedAt}
 use Rattle.sign.specs.Inner.{countOf, Holds}

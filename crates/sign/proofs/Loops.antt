@@ -1,11 +1,10 @@
 -- The loop over prefix symbols and the loop over spatial symbols: one law for each way on or out.
 use Prim.Native.Nat.{ℕ, _+_, _-_, _≤_, _<_}
 use mathlib.Core.List.{List, [], _∷_, _++_, map}
-use mathlib.Core.Path.{_≡_, refl, sym, ap, _∙_}
+use mathlib.Core.Path.{_≡_, sym, ap, _∙_}
 use lib.ListN.{length, set as setAt}
-use native.Mathlib.Omega.{arith}
-use Rattle.format.specs.Format.{Format, many}
-use Rattle.format.specs.Located.{Located, found, wrongAt, cut, locate}
+use Rattle.format.specs.Format.{Format}
+use Rattle.format.specs.Located.{found, wrongAt, cut, locate}
 use Rattle.format.proofs.Delimited.{Fixed}
 use Rattle.charset.specs.declared.Charset.{Charset}
 use Rattle.charset.specs.Tokens.{Tokens, tokens}

@@ -1,9 +1,9 @@
 -- The limits, and the reading by value.
-use Prim.Native.Nat.{ℕ, _≤_, _<_}
-use mathlib.Core.List.{List, map}
+use Prim.Native.Nat.{ℕ, _<_}
+use mathlib.Core.List.{List}
 use mathlib.Core.Path.{_≡_, refl, sym, ap, _∙_}
 use mathlib.Core.Bool.{Bool, true, false}
-use lib.Dec.{eqb, ltb}
+use lib.Dec.{ltb}
 use lib.ListN.{length}
 use native.Mathlib.Omega.{arith}
 use Rattle.format.specs.Format.{choose}
@@ -13,9 +13,8 @@ use Rattle.grammar.specs.Sign.{Meaning}
 use Rattle.grammar.specs.SignLaws.{readSign}
 use Rattle.token.specs.Result.{Result, refusal, done, ofOutcome}
 use Rattle.sign.specs.declared.reader.Head.{Head}
-use Rattle.sign.specs.declared.Sign.{Sign}
 use Rattle.sign.specs.declared.Reading.{Reading}
-use Rattle.sign.specs.Reading.{withinLimits, signOf, padded, packed, readingOf}
+use Rattle.sign.specs.Reading.{withinLimits, signOf, padded, readingOf}
 use Rattle.sign.specs.Inner.{headOf, noHead, HoldsSymbols, ReadAs, TextInto, ReadInto, limited}
 
 -- the limits, of a sign that was read

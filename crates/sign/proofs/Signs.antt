@@ -1,27 +1,23 @@
 -- From the prefix and the signbox to the sign: one law for each return.
-use Prim.Native.Nat.{ℕ, zero, suc, _+_, _-_, _≤_, _<_}
+use Prim.Native.Nat.{ℕ, _-_, _≤_, _<_}
 use mathlib.Core.List.{List, [], _∷_, map}
-use mathlib.Core.Path.{_≡_, refl, sym, ap, subst, _∙_}
-use mathlib.Core.Bool.{Bool, true, false}
+use mathlib.Core.Path.{_≡_, refl, sym, ap, _∙_}
 use mathlib.Core.Option.{Option, none, some}
-use lib.Dec.{ltb}
 use lib.ListN.{length, drop}
 use native.Mathlib.Omega.{arith}
-use borrow.Author.Tests.{lt-ltb, le-ltb, ltb-true, ltb-false}
-use Rattle.format.specs.Format.{Format, value, other, short, sequence, optional, many}
+use borrow.Author.Tests.{lt-ltb, le-ltb}
+use Rattle.format.specs.Format.{Format, other, short, optional, many}
 use Rattle.format.specs.Places.{Outcome, fine, refused, unfinished}
 use Rattle.format.specs.Located.{Located, found, wrongAt, cut, locate, andThen, onFound, ended}
 use Rattle.format.proofs.Delimited.{Delimited, solid}
-use Rattle.format.proofs.Lawful.{Lawful}
 use Rattle.format.proofs.Parts.{optional-lawful}
 use Rattle.format.proofs.Many.{many-lawful}
-use Rattle.format.proofs.At.{Got, got, delimited-got, mapped-at, sequence-at, sequence-at-got, Wronged, here, later, wronged, cut-reads}
-use Rattle.format.proofs.Loop.{many-end}
+use Rattle.format.proofs.At.{got, delimited-got, mapped-at, sequence-at, sequence-at-got, Wronged, here, later, wronged, cut-reads}
 use Rattle.format.proofs.Ends.{onFine, ended-on, reading-at, optional-begun, optional-other, optional-short, optional-empty, locate-empty, oneOrMore, one-or-more}
 use Rattle.charset.specs.declared.Charset.{Charset}
 use Rattle.charset.specs.Tokens.{Tokens, tokens}
 use Rattle.charset.proofs.Sets.{lawful}
-use Rattle.grammar.specs.Sign.{Spatial, Meaning, Valid, prefixSymbol, prefixSymbols, prefix, head, spatial, signbox, parts, sign, toSpatial, toPrefix, toMeaning, ofMeaning}
+use Rattle.grammar.specs.Sign.{Meaning, Valid, prefixSymbol, prefixSymbols, prefix, head, spatial, signbox, parts, sign, toPrefix, toMeaning, ofMeaning}
 use Rattle.grammar.specs.SignLaws.{readSign}
 use Rattle.grammar.proofs.Sign.{symbol-fixed, head-fixed, prefix-lawful, sign-lawful}
 use Rattle.token.specs.declared.reading.Token.the-variants as token
@@ -31,7 +27,7 @@ use Rattle.token.proofs.Told.{Told, told-at, told-wrong, told-short}
 use Rattle.sign.specs.declared.reader.Count.{Count}
 use Rattle.sign.specs.declared.reader.Head.{Head}
 use Rattle.sign.specs.Reading.{padded, zeros}
-use Rattle.sign.specs.Inner.{countOf, Holds, PrefixIn, headOf, noHead, BoxAs, SignboxIn, Begun, ReadAs, TextInto}
+use Rattle.sign.specs.Inner.{countOf, PrefixIn, headOf, noHead, BoxAs, SignboxIn, Begun, ReadAs, TextInto}
 use Rattle.sign.proofs.Filling.{padded-none}
 use Rattle.sign.proofs.Texts.{Box}
 

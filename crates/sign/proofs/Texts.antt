@@ -1,28 +1,22 @@
 -- From the parts of a text to what reading it answers: one law for each return.
-use Prim.Native.Nat.{ℕ, zero, suc, _+_, _-_, _≤_, _<_}
-use mathlib.Core.List.{List, [], _∷_, _++_, map}
-use mathlib.Core.Path.{_≡_, refl, sym, ap, subst, _∙_}
-use mathlib.Core.Bool.{Bool, true, false}
-use mathlib.Core.Option.{Option, none, some}
-use lib.Dec.{ltb}
-use lib.ListN.{length, drop}
+use Prim.Native.Nat.{ℕ, suc, _+_, _-_, _≤_}
+use mathlib.Core.List.{List, [], _∷_, map}
+use mathlib.Core.Path.{_≡_, refl, sym, ap, _∙_}
+use lib.ListN.{length}
 use native.Mathlib.Omega.{arith}
-use borrow.Author.Tests.{lt-ltb, le-ltb}
-use Rattle.format.specs.Format.{Format, Answer, value, other, wrong, short, sequence, optional, many}
+use Rattle.format.specs.Format.{many}
 use Rattle.format.specs.Places.{Outcome, fine, refused, unfinished}
 use Rattle.format.specs.Located.{Located, found, wrongAt, cut, locate, andThen, onFound, ended}
-use Rattle.format.proofs.Delimited.{Delimited, Fixed, solid}
+use Rattle.format.proofs.Delimited.{Delimited, solid}
 use Rattle.format.proofs.Lawful.{Lawful}
-use Rattle.format.proofs.Parts.{optional-lawful}
 use Rattle.format.proofs.Many.{many-lawful}
-use Rattle.format.proofs.At.{Got, got, fixed-got, mapped-at, sequence-at, sequence-at-got, Wronged, here, later, wronged, cut-reads}
-use Rattle.format.proofs.Ends.{onFine, ended-on, reading-at, optional-begun, optional-other, optional-short, oneOrMore, one-or-more}
+use Rattle.format.proofs.At.{got, fixed-got, sequence-at}
 use Rattle.charset.specs.declared.Charset.{Charset}
 use Rattle.charset.specs.Tokens.{Tokens, tokens}
 use Rattle.charset.proofs.Sets.{lawful}
-use Rattle.grammar.specs.Sign.{Spatial, Meaning, Parts, Valid, prefixSymbol, prefixSymbols, prefix, head, spatial, signbox, parts, sign, toSpatial, toPrefix, toMeaning, ofMeaning}
-use Rattle.grammar.specs.SignLaws.{readSign, headSize, spatialSize}
-use Rattle.grammar.proofs.Sign.{symbol-fixed, marker-fixed, head-fixed, spatial-fixed, prefix-lawful, sign-lawful}
+use Rattle.grammar.specs.Sign.{Spatial, head, spatial, signbox, toSpatial}
+use Rattle.grammar.specs.SignLaws.{headSize}
+use Rattle.grammar.proofs.Sign.{head-fixed, spatial-fixed}
 use Rattle.fast.specs.declared.fsw.Placed.the-variants.{At, Wrong, Short}
 use Rattle.part.specs.Placed.{placedAt}
 use Rattle.token.specs.Ends.{leftOver}
@@ -30,7 +24,7 @@ use Rattle.token.proofs.Ends.{end-wrong, end-short, end-fine}
 use Rattle.sign.specs.declared.reader.Count.{Count}
 use Rattle.sign.specs.declared.reader.Head.{Head}
 use Rattle.sign.specs.Reading.{padded}
-use Rattle.sign.specs.Inner.{countOf, Holds, SymbolsIn, headOf, noHead, HoldsSymbols, BoxAs, SignboxIn}
+use Rattle.sign.specs.Inner.{countOf, Holds, SymbolsIn, noHead, BoxAs, SignboxIn}
 use Rattle.sign.proofs.Filling.{placed-found, placed-wrong, placed-short}
 
 abbrev pub Box : Type 0

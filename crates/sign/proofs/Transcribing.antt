@@ -13,18 +13,17 @@ use borrow.Author.Tests.{ltb-false}
 use Rattle.format.specs.Format.{choose}
 use Rattle.format.specs.Places.{Outcome, fine, refused, unfinished}
 use Rattle.charset.specs.declared.Charset.{Charset}
-use Rattle.charset.specs.declared.Charset.the-variants.{Fsw, Swu}
 use Rattle.grammar.specs.Sign.{Spatial, Meaning, Valid, signText}
 use Rattle.grammar.specs.SignLaws.{readSign}
 use Rattle.grammar.proofs.SignLaws.{sign-laws}
 use Rattle.token.specs.declared.Written.{Written}
-use Rattle.token.specs.Result.{Result, refusal, done, ofOutcome, onDone}
+use Rattle.token.specs.Result.{refusal, done, ofOutcome, onDone}
 use Rattle.token.proofs.Answers.{Answers, answers-refused}
 use Rattle.sign.specs.declared.reader.Head.{Head}
 use Rattle.sign.specs.Reading.{withinLimits, signOf, padded}
-use Rattle.sign.specs.Inner.{headOf, HoldsSymbols, ReadInto}
+use Rattle.sign.specs.Inner.{ReadInto}
 use Rattle.sign.specs.Arrays.{upto, at, symbolAt, meaningIn}
-use Rattle.sign.specs.Transcription.{otherSet, transcription, TranscriptionLaws}
+use Rattle.sign.specs.Transcription.{otherSet, transcription}
 use Rattle.sign.proofs.Filling.{padded-length}
 use Rattle.sign.proofs.Readings.{Known, not-read, was-read, known}
 use Rattle.sign.proofs.Upto.{upto-length}

@@ -1,14 +1,12 @@
 -- A sign and its transcription read as equal signs, and the way back returns the same bytes.
-use Prim.Native.Nat.{ℕ, _≤_}
+use Prim.Native.Nat.{ℕ}
 use mathlib.Core.List.{List}
 use mathlib.Core.Path.{_≡_, refl, sym, ap, _∙_}
 use lib.ListN.{length}
 use borrow.Author.Tests.{le-ltb}
-use Rattle.format.specs.Places.{Outcome, fine, refused, unfinished}
 use Rattle.charset.specs.declared.Charset.{Charset}
 use Rattle.charset.specs.declared.Charset.the-variants.{Fsw, Swu}
-use Rattle.grammar.specs.Sign.{Meaning, Valid, signText}
-use Rattle.grammar.specs.SignLaws.{readSign}
+use Rattle.grammar.specs.Sign.{Meaning, signText}
 use Rattle.grammar.proofs.SignLaws.{sign-laws}
 use Rattle.token.specs.Result.{Result, refusal, done, ofOutcome, onDone}
 use Rattle.sign.specs.Reading.{withinLimits, signOf}

@@ -4,8 +4,8 @@ use mathlib.Core.Path.{_≡_}
 use mathlib.Core.List.{List}
 use Rattle.charset.specs.declared.Charset.{Charset}
 use Rattle.charset.specs.declared.Charset.the-variants.{Fsw, Swu}
-use Rattle.grammar.specs.Sign.{Meaning, signText}
-use Rattle.token.specs.Result.{Result, refusal, done, onDone}
+use Rattle.grammar.specs.Sign.{signText}
+use Rattle.token.specs.Result.{Result, done, onDone}
 use Rattle.sign.specs.Reading.{signOf}
 
 abbrev pub otherSet : Charset → Charset

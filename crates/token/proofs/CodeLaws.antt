@@ -9,13 +9,12 @@ use lib.ListN.{length}
 use native.Mathlib.Omega.{arith}
 use borrow.Author.Tests.{ltb-false}
 use Rattle.format.specs.Format.{choose}
-use Rattle.format.specs.Numeral.{Range}
 use Rattle.format.specs.Places.{Outcome, fine, refused, unfinished, reading, Means}
 use Rattle.format.proofs.Places.{exactly, by-bytes}
 use Rattle.charset.specs.declared.Charset.{Charset}
 use Rattle.charset.specs.declared.Charset.the-variants.{Fsw, Swu}
 use Rattle.charset.specs.Tokens.{tokens}
-use Rattle.token.specs.Result.{Result, refusal, done, ofOutcome}
+use Rattle.token.specs.Result.{refusal, done, ofOutcome}
 use Rattle.token.specs.Codes.{anySymbol, codeOf, codeText}
 use Rattle.token.specs.CodeLaws.{CodeLaws, KeyPlaces}
 use Rattle.token.proofs.Codes.{code-fine}

@@ -1,18 +1,17 @@
 -- Reading the symbol of a text by itself: one law for each return.
-use Prim.Native.Nat.{ℕ, _+_, _≤_}
-use mathlib.Core.Path.{_≡_, refl, sym, ap, _∙_}
+use Prim.Native.Nat.{ℕ, _≤_}
+use mathlib.Core.Path.{_≡_, sym, ap, _∙_}
 use mathlib.Core.List.{List}
 use lib.ListN.{length}
 use native.Mathlib.Omega.{arith}
 use Rattle.format.specs.Places.{Outcome, fine, refused, unfinished}
-use Rattle.format.specs.Located.{Located, found, wrongAt, cut, locate, ended}
+use Rattle.format.specs.Located.{found, locate, ended}
 use Rattle.format.proofs.Delimited.{Fixed}
 use Rattle.format.proofs.Ends.{reading-at}
 use Rattle.charset.specs.declared.Charset.{Charset}
 use Rattle.charset.specs.Tokens.{tokens, lastPunctuation}
 use Rattle.charset.proofs.Sets.{lawful}
 use Rattle.token.specs.declared.Code.{Code}
-use Rattle.token.specs.declared.reading.Token.{Token}
 use Rattle.token.specs.declared.reading.Token.the-variants.{Value, Wrong, Short}
 use Rattle.token.specs.Result.{ofOutcome}
 use Rattle.token.specs.Codes.{anySymbol, codeAs, codeRead}

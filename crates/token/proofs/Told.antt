@@ -1,5 +1,5 @@
 -- Laws of tokens read part by part: a function that reads one only cites these.
-use Prim.Native.Nat.{ℕ, suc, _+_, _-_, _*_, _/_, _%_, _≤_, _<_, min}
+use Prim.Native.Nat.{ℕ, _+_, _-_, _≤_}
 use mathlib.Core.List.{List, [], _∷_}
 use mathlib.Core.Path.{_≡_, refl, sym, ap, _∙_}
 use mathlib.Core.Logic.{inl, inr}
@@ -10,7 +10,7 @@ use denote.Enum.Declared.{tagOf}
 use Rattle.format.specs.Format.{Format, sequence, mapped}
 use Rattle.format.specs.Located.{Located, found, wrongAt, cut, locate, andThen, onFound}
 use Rattle.format.proofs.Delimited.{Delimited, Fixed}
-use Rattle.format.proofs.At.{Got, fixed-got, sequence-at, mapped-at}
+use Rattle.format.proofs.At.{fixed-got, sequence-at, mapped-at}
 use Rattle.token.specs.declared.reading.Token.{Token}
 use Rattle.token.specs.declared.reading.Token.the-variants.{Value, Wrong, Short}
 use Rattle.token.specs.Token.{told, tokenAt}

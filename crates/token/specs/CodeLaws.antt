@@ -7,7 +7,7 @@ use Rattle.format.specs.Places.{Outcome, reading, Means, ByBytes}
 use Rattle.charset.specs.declared.Charset.{Charset}
 use Rattle.charset.specs.declared.Charset.the-variants.{Fsw}
 use Rattle.charset.specs.Tokens.{tokens}
-use Rattle.token.specs.Result.{Result, done}
+use Rattle.token.specs.Result.{done}
 use Rattle.token.specs.Codes.{anySymbol, codeOf, codeText}
 
 pub record CodeLaws (set : Charset) : Type 0 where

@@ -1,5 +1,5 @@
 use denote.Ref.{now}
-use Rattle.sign.proofs.Transcribing.{Lies, lies, transcribed, transcribed-refused}
+use Rattle.sign.proofs.Transcribing.{lies, transcribed, transcribed-refused}
 use borrow.Author.Needs.{needs}
 use Rattle.sign.proofs.transcribe.Statement.{statement}
 use Rattle.sign.proofs.transcribe.Tie as tie
