@@ -1,9 +1,3 @@
-pub mod Filling
-pub mod Loops
-pub mod Texts
-pub mod Signs
 pub mod Readings
-pub mod Upto
-pub mod SignWrites
 pub mod Transcribing
 pub mod Transcriptions

@@ -19,14 +19,14 @@ use Rattle.grammar.proofs.SignLaws.{sign-laws}
 use Rattle.token.specs.declared.Written.{Written}
 use Rattle.token.specs.Result.{refusal, done, ofOutcome, onDone}
 use Rattle.token.proofs.Answers.{Answers, answers-refused}
-use Rattle.sign.specs.declared.reader.Head.{Head}
-use Rattle.sign.specs.Reading.{withinLimits, signOf, padded}
-use Rattle.sign.specs.Inner.{ReadInto}
-use Rattle.sign.specs.Arrays.{upto, at, symbolAt, meaningIn}
+use Rattle.reader.specs.declared.arrays.Head.{Head}
+use Rattle.reader.specs.Signs.{withinLimits, signOf, padded}
+use Rattle.reader.specs.Inner.{ReadInto}
+use Rattle.writer.specs.Arrays.{upto, at, symbolAt, meaningIn}
 use Rattle.sign.specs.Transcription.{otherSet, transcription}
-use Rattle.sign.proofs.Filling.{padded-length}
-use Rattle.sign.proofs.Readings.{Known, not-read, was-read, known}
-use Rattle.sign.proofs.Upto.{upto-length}
+use Rattle.reader.proofs.Filling.{padded-length}
+use Rattle.reader.proofs.Limits.{Known, not-read, was-read, known}
+use Rattle.writer.proofs.Upto.{upto-length}
 
 upto-at : {A : Type 0} (g : ℕ → A) (n i : ℕ) (d : A) → i < n → getD (upto g n) i d ≡ g i
 unfolding upto

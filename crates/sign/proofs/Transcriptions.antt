@@ -9,7 +9,7 @@ use Rattle.charset.specs.declared.Charset.the-variants.{Fsw, Swu}
 use Rattle.grammar.specs.Sign.{Meaning, signText}
 use Rattle.grammar.proofs.SignLaws.{sign-laws}
 use Rattle.token.specs.Result.{Result, refusal, done, ofOutcome, onDone}
-use Rattle.sign.specs.Reading.{withinLimits, signOf}
+use Rattle.reader.specs.Signs.{withinLimits, signOf}
 use Rattle.sign.specs.Transcription.{otherSet, transcription, TranscriptionLaws}
 use Rattle.sign.proofs.Transcribing.{Within, sign-within, sign-reads}
 use native.Mathlib.Omega.{arith}

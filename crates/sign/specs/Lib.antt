@@ -1,4 +1,2 @@
 pub mod Reading
 pub mod Transcription
-pub mod Inner
-pub mod Arrays

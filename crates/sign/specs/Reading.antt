@@ -1,32 +1,11 @@
--- What reading a sign answers: first what the text says, then the limits, then the record with its arrays.
-use Prim.Native.Nat.{ℕ, zero, suc}
-use mathlib.Core.List.{List, [], _∷_, map}
-use lib.Dec.{ltb}
-use lib.ListN.{length, replicate}
-use Rattle.format.specs.Format.{choose}
-use Rattle.charset.specs.declared.Charset.{Charset}
+-- What reading a sign answers: the record with its arrays, or zeros beside the refusal.
+use mathlib.Core.List.{map}
+use lib.ListN.{length}
 use Rattle.grammar.specs.Sign.{Meaning}
-use Rattle.grammar.specs.SignLaws.{readSign}
-use Rattle.token.specs.Refusal.{prefixLong, signboxLong}
-use Rattle.token.specs.Result.{Result, refusal, done, ofOutcome}
+use Rattle.token.specs.Result.{Result, refusal, done}
+use Rattle.reader.specs.Signs.{padded, zeros}
 use Rattle.sign.specs.declared.Sign.{Sign}
 use Rattle.sign.specs.declared.Reading.{Reading}
-
--- at most 32 prefix symbols and 64 signbox symbols
-abbrev pub withinLimits : Result Meaning → Result Meaning
-withinLimits (refusal number place) = refusal number place
-withinLimits (done m) =
-    choose (ltb 32 (length (m .prefix))) (refusal prefixLong 0)
-    (choose (ltb 64 (length (m .symbols))) (refusal signboxLong 0) (done m))
-
-unfoldable pub signOf : Charset → List ℕ → Result Meaning
-signOf set text = withinLimits (ofOutcome (length text) (readSign set text))
-
--- the first n of a list, with zeros where it has fewer
-unfoldable pub padded : ℕ → List ℕ → List ℕ
-padded zero l = []
-padded (suc n) [] = 0 ∷ padded n []
-padded (suc n) (v ∷ l) = v ∷ padded n l
 
 abbrev pub packed : Meaning → Sign
 packed m = record {
@@ -40,9 +19,6 @@ packed m = record {
   xs = padded 64 (map (λ s. s .x) (m .symbols));
   ys = padded 64 (map (λ s. s .y) (m .symbols));
 }
-
-abbrev pub zeros : ℕ → List ℕ
-zeros n = replicate n 0
 
 abbrev pub noSign : Sign
 noSign = record {

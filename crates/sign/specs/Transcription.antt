@@ -6,7 +6,7 @@ use Rattle.charset.specs.declared.Charset.{Charset}
 use Rattle.charset.specs.declared.Charset.the-variants.{Fsw, Swu}
 use Rattle.grammar.specs.Sign.{signText}
 use Rattle.token.specs.Result.{Result, done, onDone}
-use Rattle.sign.specs.Reading.{signOf}
+use Rattle.reader.specs.Signs.{signOf}
 
 abbrev pub otherSet : Charset → Charset
 otherSet Fsw = Swu

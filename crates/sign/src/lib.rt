@@ -1,14 +1,12 @@
 // Signs: reading in either character set, and transcription into the other.
 ghost use mathlib.Core.Path.{_≡_};
 ghost use Rattle.token.specs.Result.{refusal, written, output};
-ghost use Rattle.sign.specs.Reading.{signOf, readingOf};
+ghost use Rattle.reader.specs.Signs.{signOf};
+ghost use Rattle.sign.specs.Reading.{readingOf};
 ghost use Rattle.sign.specs.Transcription.{otherSet, transcription};
 use charset::Charset;
 use token::Written;
 use token::refusal::DONE;
-
-pub mod reader;
-pub mod writer;
 
 // A sign as read. The marker is 1 to 4 for B, L, M, R, and the maximum is as stated. Places after the counts hold 0.
 pub struct Sign {
@@ -59,7 +57,7 @@ pub fn read(set: Charset, text: &[u8]) -> Reading
     let mut codes = [0u16; 64];
     let mut xs = [0u16; 64];
     let mut ys = [0u16; 64];
-    let h = reader::read_into(set, text, &mut prefix, &mut codes, &mut xs, &mut ys);
+    let h = reader::arrays::read_into(set, text, &mut prefix, &mut codes, &mut xs, &mut ys);
     let number = h.number;
     if number != DONE {
         return no_sign(number, h.place);
@@ -100,7 +98,7 @@ pub fn transcribe(set: Charset, text: &[u8], out: &mut [u8]) -> Written
     let mut codes = [0u16; 64];
     let mut xs = [0u16; 64];
     let mut ys = [0u16; 64];
-    let h = reader::read_into(set, text, &mut prefix, &mut codes, &mut xs, &mut ys);
+    let h = reader::arrays::read_into(set, text, &mut prefix, &mut codes, &mut xs, &mut ys);
     let number = h.number;
     if number != DONE {
         return Written {
@@ -109,7 +107,7 @@ pub fn transcribe(set: Charset, text: &[u8], out: &mut [u8]) -> Written
             length: 0,
         };
     }
-    writer::write_sign(
+    writer::arrays::write_sign(
         other_set(set),
         h.marker,
         h.max_x,

@@ -1,0 +1,5 @@
+pub mod Filling
+pub mod Loops
+pub mod Texts
+pub mod Signs
+pub mod Limits

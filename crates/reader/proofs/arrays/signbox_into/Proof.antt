@@ -1,0 +1,88 @@
+use mathlib.Core.Path.{sym, _∙_}
+use denote.Ref.{now}
+use native.Mathlib.Omega.{arith}
+use Rattle.reader.proofs.Texts.{head-room, place-inside, box-wrong, box-short, box-refused, box-over, box-cut, box-fine}
+use borrow.Author.Needs.{needs}
+use Rattle.reader.proofs.arrays.signbox_into.Statement.{statement}
+use Rattle.reader.proofs.arrays.signbox_into.Tie as tie
+
+head-at-requires : tie.Need-head-at-requires
+head-at-requires c κs = search needs
+
+enum-known-m : tie.Need-enum-known-m
+enum-known-m c = search needs
+
+head-size-requires : tie.Need-head-size-requires
+head-size-requires c κs = search needs
+
+add-symbols-into : tie.Need-add-symbols-into
+add-symbols-into c = omega (arith, head-room (c .before .before .before .before .before .before .args .set) (now (c .before .before .before .before .before .before .args .s)) (c .before .before .before .before .before .before .args .at) (c .before .before .before .before .before .before .args .before) _ _ _ _ (sym (c .before .before .before .before .head-at .ensures) ∙ c .before .before .m .given .1) (c .head-size .ensures))
+
+symbols-into-requires : tie.Need-symbols-into-requires
+symbols-into-requires c κs = (head-room (c .before .before .before .before .before .before .before .before .before .args .set) (now (c .before .before .before .before .before .before .before .before .before .args .s)) (c .before .before .before .before .before .before .before .before .before .args .at) (c .before .before .before .before .before .before .before .before .before .args .before) _ _ _ _ (sym (c .before .before .before .before .before .before .before .head-at .ensures) ∙ c .before .before .before .before .before .m .given .1) (c .before .before .before .head-size .ensures), c .before .before .before .before .before .before .before .before .before .pre .1, c .before .before .before .before .before .before .before .before .before .pre .2, c .before .before .before .before .before .before .before .before .before .pre .3)
+
+no-head-requires : tie.Need-no-head-requires
+no-head-requires c κs = search needs
+
+returns : tie.Need-returns
+returns c = box-refused _ _ _ _ _ _ _ _ (sym (c .before .before .before .before .before .before .before .before .before .before .head-at .ensures) ∙ c .before .before .before .before .before .before .before .before .m .given .1) (c .before .before .before .before .before .before .head-size .ensures) _ _ _ _ (c .before .before .symbols-into .ensures) _ (c .before .if1 .taken) (c .no-head .ensures)
+
+left-over-requires : tie.Need-left-over-requires
+left-over-requires c κs = place-inside (c .before .before .before .before .before .before .before .before .before .before .before .args .set) (now (c .before .before .before .before .before .before .before .before .before .before .before .args .s)) (c .before .before .before .before .before .before .before .before .before .before .before .args .at) (c .before .before .before .before .before .before .before .before .before .before .before .args .before) _ _ _ _ (sym (c .before .before .before .before .before .before .before .before .before .head-at .ensures) ∙ c .before .before .before .before .before .before .before .m .given .1) (c .before .before .before .before .before .head-size .ensures) _ _ _ _ (c .before .symbols-into .ensures) (c .if1 .left)
+
+no-head-requires-2 : tie.Need-no-head-requires-2
+no-head-requires-2 c κs = search needs
+
+returns-2 : tie.Need-returns-2
+returns-2 c = box-over _ _ _ _ _ _ _ _ (sym (c .before .before .before .before .before .before .before .before .before .before .before .before .head-at .ensures) ∙ c .before .before .before .before .before .before .before .before .before .before .m .given .1) (c .before .before .before .before .before .before .before .before .head-size .ensures) _ _ _ _ (c .before .before .before .before .symbols-into .ensures) _ (c .before .before .before .if1 .left) (c .before .before .left-over .ensures) _ (c .before .if2 .taken) (c .no-head2 .ensures)
+
+no-head-requires-3 : tie.Need-no-head-requires-3
+no-head-requires-3 c κs = search needs
+
+returns-3 : tie.Need-returns-3
+returns-3 c = box-cut _ _ _ _ _ _ _ _ (sym (c .before .before .before .before .before .before .before .before .before .before .before .before .before .head-at .ensures) ∙ c .before .before .before .before .before .before .before .before .before .before .before .m .given .1) (c .before .before .before .before .before .before .before .before .before .head-size .ensures) _ _ _ _ (c .before .before .before .before .before .symbols-into .ensures) _ (c .before .before .before .before .if1 .left) (c .before .before .before .left-over .ensures) _ (c .before .if3 .taken) (c .no-head3 .ensures)
+
+enum-known-p : tie.Need-enum-known-p
+enum-known-p c = search needs
+
+no-head-requires-4 : tie.Need-no-head-requires-4
+no-head-requires-4 c κs = search needs
+
+enum-told : tie.Need-enum-told
+enum-told c = search needs
+
+no-head-requires-5 : tie.Need-no-head-requires-5
+no-head-requires-5 c κs = search needs
+
+returns-4 : tie.Need-returns-4
+returns-4 c = box-fine _ _ _ _ _ _ _ _ (sym (c .before .before .before .before .before .before .before .before .before .before .before .before .head-at .ensures) ∙ c .before .before .before .before .before .before .before .before .before .before .m .given .1) (c .before .before .before .before .before .before .before .before .head-size .ensures) _ _ _ _ (c .before .before .before .before .symbols-into .ensures) _ (c .before .before .before .if1 .left) (c .before .before .left-over .ensures) (c .before .if2 .left) (c .if3 .left)
+
+returns-5 : tie.Need-returns-5
+returns-5 c = box-wrong _ _ _ _ _ _ _ _ _ (sym (c .before .before .before .before .head-at .ensures) ∙ c .before .before .p .given .1) (c .no-head4 .ensures)
+
+returns-6 : tie.Need-returns-6
+returns-6 c = box-short _ _ _ _ _ _ _ _ (sym (c .before .before .before .head-at .ensures) ∙ c .before .enum-told .given .1) (c .no-head5 .ensures)
+
+pub signbox-into-spec : {M : Type 1} → statement M
+signbox-into-spec =
+    tie.close
+    (tie.spec
+    head-at-requires
+    enum-known-m
+    head-size-requires
+    add-symbols-into
+    symbols-into-requires
+    no-head-requires
+    returns
+    left-over-requires
+    no-head-requires-2
+    returns-2
+    no-head-requires-3
+    returns-3
+    enum-known-p
+    no-head-requires-4
+    enum-told
+    no-head-requires-5
+    returns-4
+    returns-5
+    returns-6)

@@ -1,0 +1,30 @@
+-- What a text says as a sign, within the limits, and how it lies in arrays.
+use Prim.Native.Nat.{ℕ, zero, suc}
+use mathlib.Core.List.{List, [], _∷_}
+use lib.Dec.{ltb}
+use lib.ListN.{length, replicate}
+use Rattle.format.specs.Format.{choose}
+use Rattle.charset.specs.declared.Charset.{Charset}
+use Rattle.grammar.specs.Sign.{Meaning}
+use Rattle.grammar.specs.SignLaws.{readSign}
+use Rattle.token.specs.Refusal.{prefixLong, signboxLong}
+use Rattle.token.specs.Result.{Result, refusal, done, ofOutcome}
+
+-- at most 32 prefix symbols and 64 signbox symbols
+abbrev pub withinLimits : Result Meaning → Result Meaning
+withinLimits (refusal number place) = refusal number place
+withinLimits (done m) =
+    choose (ltb 32 (length (m .prefix))) (refusal prefixLong 0)
+    (choose (ltb 64 (length (m .symbols))) (refusal signboxLong 0) (done m))
+
+unfoldable pub signOf : Charset → List ℕ → Result Meaning
+signOf set text = withinLimits (ofOutcome (length text) (readSign set text))
+
+-- the first n of a list, with zeros where it has fewer
+unfoldable pub padded : ℕ → List ℕ → List ℕ
+padded zero l = []
+padded (suc n) [] = 0 ∷ padded n []
+padded (suc n) (v ∷ l) = v ∷ padded n l
+
+abbrev pub zeros : ℕ → List ℕ
+zeros n = replicate n 0

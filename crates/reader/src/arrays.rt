@@ -1,0 +1,266 @@
+// Reading a sign into lent arrays: every symbol is read and counted, and the first 32 and 64 are kept.
+ghost use mathlib.Core.Path.{_≡_};
+ghost use Prim.Native.Nat.{_≤_};
+ghost use lib.ListN.{length, set as setAt};
+ghost use Rattle.reader.specs.Signs.{zeros};
+ghost use Rattle.reader.specs.Inner.{PrefixIn, SymbolsIn, SignboxIn, Begun, TextInto, ReadInto, noHead, limited};
+use charset::Charset;
+use fast::fsw::Placed;
+use token::reading::Token;
+use token::refusal::DONE;
+use token::refusal::PREFIX_LONG;
+use token::refusal::SIGNBOX_LONG;
+use token::refusal::TEXT_SHORT;
+use token::refusal::TEXT_WRONG;
+
+// A store where there is room for it.
+fn put32(a: &mut [u16; 32], n: usize, v: u16)
+    requires { ⌜ length (now a) ≡ 32 ⌝ }
+    ensures { λ r. ⌜ now (a .exit) ≡ setAt (now (a .entry)) n v ⌝ }
+{
+    if n < 32 {
+        a[n] = v;
+    }
+}
+
+fn put64(a: &mut [u16; 64], n: usize, v: u16)
+    requires { ⌜ length (now a) ≡ 64 ⌝ }
+    ensures { λ r. ⌜ now (a .exit) ≡ setAt (now (a .entry)) n v ⌝ }
+{
+    if n < 64 {
+        a[n] = v;
+    }
+}
+
+// How many were read into lent arrays, and the offset after them; or the refusal.
+pub struct Count {
+    pub number: u8,
+    pub place: usize,
+    pub count: usize,
+}
+
+fn counted(number: u8, place: usize, count: usize) -> Count
+    ensures { λ r. ⌜ r ≡ record { number = number; place = place; count = count } ⌝ }
+{
+    Count {
+        number: number,
+        place: place,
+        count: count,
+    }
+}
+
+// Prefix symbols as far as they go: all are counted, and the first 32 kept.
+fn prefix_into(set: Charset, s: &[u8], at: usize, codes: &mut [u16; 32]) -> Count
+    requires { ⌜ (at ≤ length (now s)) × (now codes ≡ zeros 32) ⌝ }
+    ensures { λ r. ⌜ PrefixIn set (now (s .entry)) at r (now (codes .exit)) ⌝ }
+{
+    let mut n: usize = 0;
+    let mut i = at;
+    let size = token::writing::symbol_size(set);
+    while i < s.len() {
+        match part::reading::prefix_symbol_at(set, s, i) {
+            Token::Value(code) => {
+                put32(codes, n, code);
+                n += 1;
+                i += size;
+            }
+            Token::Wrong(p) => {
+                if p == i {
+                    return counted(DONE, i, n);
+                }
+                return counted(TEXT_WRONG, p, 0);
+            }
+            Token::Short => {
+                return counted(TEXT_SHORT, s.len(), 0);
+            }
+        }
+    }
+    counted(DONE, i, n)
+}
+
+// Spatial symbols as far as they go: all are counted, and the first 64 kept.
+fn symbols_into(
+    set: Charset,
+    s: &[u8],
+    at: usize,
+    codes: &mut [u16; 64],
+    xs: &mut [u16; 64],
+    ys: &mut [u16; 64],
+) -> Count
+    requires { ⌜ (at ≤ length (now s)) × (now codes ≡ zeros 64) × (now xs ≡ zeros 64) × (now ys ≡ zeros 64) ⌝ }
+    ensures { λ r. ⌜ SymbolsIn set (now (s .entry)) at r (now (codes .exit)) (now (xs .exit)) (now (ys .exit)) ⌝ }
+{
+    let mut n: usize = 0;
+    let mut i = at;
+    let size = part::reading::spatial_size(set);
+    while i < s.len() {
+        match part::reading::spatial_at(set, s, i) {
+            Placed::At(code, x, y) => {
+                put64(codes, n, code);
+                put64(xs, n, x);
+                put64(ys, n, y);
+                n += 1;
+                i += size;
+            }
+            Placed::Wrong(p) => {
+                if p == i {
+                    return counted(DONE, i, n);
+                }
+                return counted(TEXT_WRONG, p, 0);
+            }
+            Placed::Short => {
+                return counted(TEXT_SHORT, s.len(), 0);
+            }
+        }
+    }
+    counted(DONE, i, n)
+}
+
+// What a reading says beside the arrays that it was lent.
+pub struct Head {
+    pub number: u8,
+    pub place: usize,
+    pub marker: u16,
+    pub max_x: u16,
+    pub max_y: u16,
+    pub prefix_count: usize,
+    pub symbol_count: usize,
+}
+
+fn no_head(number: u8, place: usize) -> Head
+    ensures { λ r. ⌜ r ≡ noHead number place ⌝ }
+{
+    Head {
+        number: number,
+        place: place,
+        marker: 0,
+        max_x: 0,
+        max_y: 0,
+        prefix_count: 0,
+        symbol_count: 0,
+    }
+}
+
+// The signbox at an offset, up to the end of the text, after a prefix of so many symbols.
+fn signbox_into(
+    set: Charset,
+    s: &[u8],
+    at: usize,
+    before: usize,
+    codes: &mut [u16; 64],
+    xs: &mut [u16; 64],
+    ys: &mut [u16; 64],
+) -> Head
+    requires { ⌜ (at ≤ length (now s)) × (now codes ≡ zeros 64) × (now xs ≡ zeros 64) × (now ys ≡ zeros 64) ⌝ }
+    ensures { λ r. ⌜ SignboxIn set (now (s .entry)) at before r (now (codes .exit)) (now (xs .exit)) (now (ys .exit)) ⌝ }
+{
+    match part::reading::head_at(set, s, at) {
+        Placed::At(m, x, y) => {
+            let size = part::reading::head_size(set);
+            let t = symbols_into(set, s, at + size, codes, xs, ys);
+            let number = t.number;
+            let place = t.place;
+            if number != DONE {
+                return no_head(number, place);
+            }
+            let left = token::reading::left_over(set, s.len(), place);
+            if left == TEXT_WRONG {
+                return no_head(TEXT_WRONG, place);
+            }
+            if left == TEXT_SHORT {
+                return no_head(TEXT_SHORT, s.len());
+            }
+            Head {
+                number: DONE,
+                place: 0,
+                marker: m,
+                max_x: x,
+                max_y: y,
+                prefix_count: before,
+                symbol_count: t.count,
+            }
+        }
+        Placed::Wrong(p) => no_head(TEXT_WRONG, p),
+        Placed::Short => no_head(TEXT_SHORT, s.len()),
+    }
+}
+
+// The prefix after its A, and the signbox after it.
+fn prefixed_into(
+    set: Charset,
+    s: &[u8],
+    prefix: &mut [u16; 32],
+    codes: &mut [u16; 64],
+    xs: &mut [u16; 64],
+    ys: &mut [u16; 64],
+) -> Head
+    requires { ⌜ Begun set (now s) × (now prefix ≡ zeros 32) × (now codes ≡ zeros 64) × (now xs ≡ zeros 64) × (now ys ≡ zeros 64) ⌝ }
+    ensures { λ r. ⌜ TextInto set (now (s .entry)) r (now (prefix .exit)) (now (codes .exit)) (now (xs .exit)) (now (ys .exit)) ⌝ }
+{
+    let size = part::reading::marker_size(set);
+    let t = prefix_into(set, s, size, prefix);
+    let number = t.number;
+    let place = t.place;
+    let count = t.count;
+    if number != DONE {
+        return no_head(number, place);
+    }
+    if 0 < count {
+        return signbox_into(set, s, place, count, codes, xs, ys);
+    }
+    if place < s.len() {
+        return no_head(TEXT_WRONG, place);
+    }
+    no_head(TEXT_SHORT, s.len())
+}
+
+// The sign that a text says, whatever the counts.
+fn text_into(
+    set: Charset,
+    s: &[u8],
+    prefix: &mut [u16; 32],
+    codes: &mut [u16; 64],
+    xs: &mut [u16; 64],
+    ys: &mut [u16; 64],
+) -> Head
+    requires { ⌜ (now prefix ≡ zeros 32) × (now codes ≡ zeros 64) × (now xs ≡ zeros 64) × (now ys ≡ zeros 64) ⌝ }
+    ensures { λ r. ⌜ TextInto set (now (s .entry)) r (now (prefix .exit)) (now (codes .exit)) (now (xs .exit)) (now (ys .exit)) ⌝ }
+{
+    match token::reading::marker_at(set, s, 0, 0, 0) {
+        Token::Value(_) => prefixed_into(set, s, prefix, codes, xs, ys),
+        Token::Wrong(_) => signbox_into(set, s, 0, 0, codes, xs, ys),
+        Token::Short => no_head(TEXT_SHORT, s.len()),
+    }
+}
+
+// The limits are judged after the text.
+fn within_limits(h: Head) -> Head
+    ensures { λ r. ⌜ r ≡ limited h ⌝ }
+{
+    let number = h.number;
+    if number != DONE {
+        return h;
+    }
+    if 32 < h.prefix_count {
+        return no_head(PREFIX_LONG, 0);
+    }
+    if 64 < h.symbol_count {
+        return no_head(SIGNBOX_LONG, 0);
+    }
+    h
+}
+
+// Reads a sign into lent arrays of zeros.
+pub fn read_into(
+    set: Charset,
+    s: &[u8],
+    prefix: &mut [u16; 32],
+    codes: &mut [u16; 64],
+    xs: &mut [u16; 64],
+    ys: &mut [u16; 64],
+) -> Head
+    requires { ⌜ (now prefix ≡ zeros 32) × (now codes ≡ zeros 64) × (now xs ≡ zeros 64) × (now ys ≡ zeros 64) ⌝ }
+    ensures { λ r. ⌜ ReadInto set (now (s .entry)) r (now (prefix .exit)) (now (codes .exit)) (now (xs .exit)) (now (ys .exit)) ⌝ }
+{
+    within_limits(text_into(set, s, prefix, codes, xs, ys))
+}

@@ -1,0 +1,3 @@
+// Reading a sign into lent arrays.
+
+pub mod arrays;

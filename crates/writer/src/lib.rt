@@ -1,0 +1,3 @@
+// Writing a sign that lies in arrays.
+
+pub mod arrays;
