@@ -51,7 +51,7 @@ second-firm w g c text rest (wrong left) s e =
     omega (arith, ap length z, ap length (s .splits), length-append (s .front) left)
 second-firm w g c text rest short s e = short-wrong e
 
-first-firm : {A B : Type 0} (w : ℕ) (f : Format A) (g : A → Format B) → Delimited w f → ((a : A) → f .Valid a → Lawful w (g a)) → (text rest : List ℕ) (r : Answer A) → f .read text ≡ r → Says w f text r
+pub first-firm : {A B : Type 0} (w : ℕ) (f : Format A) (g : A → Format B) → Delimited w f → ((a : A) → f .Valid a → Lawful w (g a)) → (text rest : List ℕ) (r : Answer A) → f .read text ≡ r → Says w f text r
     → _≡_ {A = Answer (A × B)} (first r λ a rest. second (λ b. (a, b)) rest (g a .read rest)) (wrong rest) → length rest < length text
 first-firm w f g t m text rest (value a left) q s e =
     omega (arith, second-firm w (g a) (λ b. (a, b)) left rest (g a .read left) (m a (s .1) .says left) e, ap length (s .0), length-append (f .write a) left, solid w f t a (s .1))

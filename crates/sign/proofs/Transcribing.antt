@@ -28,7 +28,7 @@ use Rattle.reader.proofs.Filling.{padded-length}
 use Rattle.reader.proofs.Limits.{Known, not-read, was-read, known}
 use Rattle.writer.proofs.Upto.{upto-length}
 
-upto-at : {A : Type 0} (g : ℕ → A) (n i : ℕ) (d : A) → i < n → getD (upto g n) i d ≡ g i
+pub upto-at : {A : Type 0} (g : ℕ → A) (n i : ℕ) (d : A) → i < n → getD (upto g n) i d ≡ g i
 unfolding upto
 upto-at g zero i d h = absurd (omega arith)
 upto-at g (suc n) i d h =
@@ -41,12 +41,12 @@ upto-at g (suc n) i d h =
     last n i h = omega arith
 
 -- the first values of a function are a list where they are its values
-upto-is : {A : Type 0} (g : ℕ → A) (l : List A) (d : A) → ((i : ℕ) → i < length l → g i ≡ getD l i d) → upto g (length l) ≡ l
+pub upto-is : {A : Type 0} (g : ℕ → A) (l : List A) (d : A) → ((i : ℕ) → i < length l → g i ≡ getD l i d) → upto g (length l) ≡ l
 upto-is g l d same =
     let e = upto-length g (length l) in
     ext-getD d (upto g (length l)) l e (λ i h. let k : i < length l = omega arith in upto-at g (length l) i d k ∙ same i k)
 
-padded-at : (k : ℕ) (l : List ℕ) (i : ℕ) → i < length l → length l ≤ k → getD (padded k l) i 0 ≡ getD l i 0
+pub padded-at : (k : ℕ) (l : List ℕ) (i : ℕ) → i < length l → length l ≤ k → getD (padded k l) i 0 ≡ getD l i 0
 unfolding padded
 padded-at zero l i h n = absurd (omega arith)
 padded-at (suc k) [] i h n = absurd (omega arith)

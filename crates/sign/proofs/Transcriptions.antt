@@ -15,7 +15,7 @@ use Rattle.sign.proofs.Transcribing.{Within, sign-within, sign-reads}
 use native.Mathlib.Omega.{arith}
 
 -- what is within the limits is read back from its text, in either set
-written-reads : (set : Charset) (m : Meaning) → Within m → signOf set (signText set m) ≡ done m
+pub written-reads : (set : Charset) (m : Meaning) → Within m → signOf set (signText set m) ≡ done m
 unfolding signOf
 written-reads set m w =
     ap (λ o. withinLimits (ofOutcome (length (signText set m)) o)) (sign-laws set .reads m (w .valid))

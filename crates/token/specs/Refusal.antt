@@ -16,5 +16,17 @@ signboxLong = 4
 abbrev pub roomShort : ℕ
 roomShort = 6
 
+abbrev pub sizesLength : ℕ
+sizesLength = 7
+
+abbrev pub symbolUnsized : ℕ
+symbolUnsized = 8
+
+abbrev pub noSymbols : ℕ
+noSymbols = 9
+
+abbrev pub numberOutside : ℕ
+numberOutside = 10
+
 abbrev pub codeWrong : ℕ
 codeWrong = 15

@@ -17,6 +17,11 @@ abbrev pub onDone : {A B : Type 0} → (A → B) → Result A → Result B
 onDone to (refusal number place) = refusal number place
 onDone to (done a) = done (to a)
 
+-- what may be refused in its turn; the first refusal stands
+abbrev pub andThen : {A B : Type 0} → Result A → (A → Result B) → Result B
+andThen (refusal number place) next = refusal number place
+andThen (done a) next = next a
+
 -- a text of size bytes, refused as 1 at the place or as 2 at its length
 abbrev pub ofOutcome : {A : Type 0} → ℕ → Outcome A → Result A
 ofOutcome size (fine a) = done a

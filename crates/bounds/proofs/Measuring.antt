@@ -1,0 +1,84 @@
+-- The refusals of sizes, case by case, and the search for a symbol without size.
+use Prim.Native.Nat.{ℕ, _+_, _<_}
+use mathlib.Core.Path.{_≡_, sym, ap, _∙_}
+use mathlib.Core.Bool.{true, false}
+use mathlib.Core.List.{List, [], _∷_, map}
+use native.Mathlib.Numerals.{add-one}
+use lib.ListN.{length, drop}
+use lib.Seq.{drop-cons, drop-length}
+use borrow.Author.Tests.{eq-eqb, ne-eqb}
+use Rattle.format.specs.Format.{choose, All}
+use Rattle.format.specs.Numeral.{Range}
+use Rattle.charset.specs.Tokens.{lastCode, lastWriting}
+use Rattle.grammar.specs.Sign.{Spatial, ValidSymbol}
+use Rattle.token.specs.Refusal.{sizesLength, noSymbols, symbolUnsized}
+use Rattle.token.specs.Result.{refusal, done}
+use Rattle.writer.specs.Arrays.{upto, at, symbolAt}
+use Rattle.writer.proofs.Upto.{upto-length, map-upto}
+use Rattle.sign.proofs.Transcribing.{upto-at}
+use Rattle.bounds.specs.Boxes.{groupsOf}
+use Rattle.bounds.specs.Sizes.{hasSize, firstUnsized, measured}
+use Rattle.bounds.specs.Inner.{Codes, Symbols}
+
+all-map : {A B : Type 0} (P : B → Type 0) (f : A → B) (l : List A) → All (λ a. P (f a)) l → All P (map f l)
+all-map P f [] ok = tt
+all-map P f (a ∷ l) ok = (ok .0, all-map P f l (ok .1))
+
+pub all-weaker : {A : Type 0} (P Q : A → Type 0) → ((a : A) → P a → Q a) → (l : List A) → All P l → All Q l
+all-weaker P Q f [] ok = tt
+all-weaker P Q f (a ∷ l) ok = (f a (ok .0), all-weaker P Q f l (ok .1))
+
+pub symbols-codes : (codes xs ys : List ℕ) (n : ℕ) → Symbols codes xs ys n → Codes codes n
+symbols-codes codes xs ys n ok =
+    let l = upto (symbolAt codes xs ys) n in
+    rw (map-upto (λ s. s .code) (symbolAt codes xs ys) n) at
+    (all-map (Range 1 (lastCode lastWriting)) (λ s. s .code) l (all-weaker ValidSymbol (λ s. Range 1 (lastCode lastWriting) (s .code)) (λ s k. k .0) l ok))
+
+-- the search, from i on
+module _ (sizes : List ℕ) (g : ℕ → ℕ) (n : ℕ) where
+  abbrev pub unsizedFrom : ℕ → ℕ
+  unsizedFrom i = firstUnsized sizes (i + 1) (drop i (upto g n))
+
+  unsized-step : (i : ℕ) → i < n → unsizedFrom i ≡ choose (hasSize sizes (g i)) (unsizedFrom (i + 1)) (i + 1)
+  unfolding firstUnsized
+  unsized-step i h =
+      ap (firstUnsized sizes (i + 1))
+      (drop-cons (upto g n) i (g i) (rw upto-length h) ∙ (λ j. upto-at g n i (g i) h j ∷ drop (sym (add-one i) j) (upto g n)))
+
+  pub unsized-here : (i : ℕ) → i < n → hasSize sizes (g i) ≡ false → unsizedFrom i ≡ i + 1
+  unsized-here i h e = unsized-step i h ∙ ap (λ t. choose t (unsizedFrom (i + 1)) (i + 1)) e
+
+  pub unsized-on : (i : ℕ) → i < n → hasSize sizes (g i) ≡ true → unsizedFrom i ≡ unsizedFrom (i + 1)
+  unsized-on i h e = unsized-step i h ∙ ap (λ t. choose t (unsizedFrom (i + 1)) (i + 1)) e
+
+  pub unsized-none : (i : ℕ) → i ≡ n → unsizedFrom i ≡ 0
+  unfolding firstUnsized
+  unsized-none i e = ap (firstUnsized sizes (i + 1)) (ap (λ k. drop k (upto g n)) (e ∙ sym (upto-length g n)) ∙ drop-length (upto g n))
+
+-- the refusals, of the first n symbols of arrays, where f is the first code without size
+module _ (sizes codes xs ys : List ℕ) (n : ℕ) where
+  abbrev l : List Spatial
+  l = upto (symbolAt codes xs ys) n
+
+  pub measured-7 : (length sizes ≡ 125184 → ⊥) → measured sizes (upto (symbolAt codes xs ys) n) ≡ refusal sizesLength 0
+  unfolding measured
+  measured-7 h = rw (ne-eqb (length sizes) 125184 h)
+
+  pub measured-9 : length sizes ≡ 125184 → n ≡ 0 → measured sizes (upto (symbolAt codes xs ys) n) ≡ refusal noSymbols 0
+  unfolding measured
+  measured-9 h e = rw (eq-eqb (length sizes) 125184 h, eq-eqb (length l) 0 (upto-length (symbolAt codes xs ys) n ∙ e))
+
+  module _ (h : length sizes ≡ 125184) (e : n ≡ 0 → ⊥) (f : ℕ) (is : f ≡ firstUnsized sizes 1 (upto (at codes) n)) where
+    first-is : firstUnsized sizes 1 (map (λ s. s .code) l) ≡ f
+    first-is = ap (firstUnsized sizes 1) (map-upto (λ s. s .code) (symbolAt codes xs ys) n) ∙ sym is
+
+    some : length l ≡ 0 → ⊥
+    some z = e (sym (upto-length (symbolAt codes xs ys) n) ∙ z)
+
+    pub measured-8 : (f ≡ 0 → ⊥) → measured sizes (upto (symbolAt codes xs ys) n) ≡ refusal symbolUnsized f
+    unfolding measured
+    measured-8 k = rw (eq-eqb (length sizes) 125184 h, ne-eqb (length l) 0 some, first-is, ne-eqb f 0 k)
+
+    pub measured-done : f ≡ 0 → measured sizes (upto (symbolAt codes xs ys) n) ≡ done (groupsOf sizes (upto (symbolAt codes xs ys) n))
+    unfolding measured
+    measured-done k = rw (eq-eqb (length sizes) 125184 h, ne-eqb (length l) 0 some, first-is, eq-eqb f 0 k)

@@ -1,0 +1,41 @@
+-- The entries of a dictionary (document 01, "The dictionary and its list"): entry e is line e, counted from 1.
+use Prim.Native.Nat.{ℕ, zero, suc}
+use mathlib.Core.List.{List, [], _∷_}
+use mathlib.Core.Bool.{Bool, true, false}
+use lib.Dec.{eqb, leb}
+use lib.ListN.{length}
+use Rattle.format.specs.Format.{choose}
+use Rattle.charset.specs.declared.Charset.{Charset}
+use Rattle.token.specs.Result.{Result, refusal, done}
+use Rattle.reader.specs.Signs.{signOf}
+use Rattle.run.specs.Narrowing.{upTo, firstBad}
+use Rattle.lines.specs.Lines.{lines, lineOf}
+use Rattle.dictionary.specs.Numbers.{lineWrong}
+
+-- refused with this number and place, unless the test holds
+abbrev pub check : {A : Type 0} → Bool → ℕ → ℕ → Result A → Result A
+check test number place r = choose test r (refusal number place)
+
+-- at most 65,535 lines
+abbrev pub fewLines : List ℕ → Bool
+fewLines dict = leb (length (lines dict)) 65535
+
+-- 1 to the line count
+abbrev pub entriesOf : List ℕ → List ℕ
+entriesOf dict = upTo (length (lines dict))
+
+abbrev pub isDone : {A : Type 0} → Result A → Bool
+isDone (refusal number place) = false
+isDone (done a) = true
+
+-- whether the sign reader reads the line of an entry
+abbrev pub readable : Charset → List ℕ → ℕ → Bool
+readable set dict e = isDone (signOf set (lineOf dict e))
+
+-- the first of the entries whose line it refuses, or 0
+abbrev pub firstWrong : Charset → List ℕ → List ℕ → ℕ
+firstWrong set dict entries = firstBad (readable set dict) entries
+
+-- refused as 13 with that entry
+abbrev pub checkLines : {A : Type 0} → Charset → List ℕ → List ℕ → Result A → Result A
+checkLines set dict entries r = check (eqb (firstWrong set dict entries) 0) lineWrong (firstWrong set dict entries) r

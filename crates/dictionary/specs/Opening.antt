@@ -1,0 +1,26 @@
+-- Opening (document 01, "The dictionary and its list"; "Refusal numbers", order).
+use Prim.Native.Nat.{ℕ}
+use mathlib.Core.List.{List}
+use lib.ListN.{length}
+use Rattle.charset.specs.declared.Charset.{Charset}
+use Rattle.token.specs.Result.{Result, refusal, done, inRoom}
+use Rattle.lines.specs.Lines.{ended}
+use Rattle.dictionary.specs.declared.Opened.{Opened}
+use Rattle.dictionary.specs.Numbers.{dictionaryUnended, tooMany}
+use Rattle.dictionary.specs.Entries.{check, fewLines, entriesOf, checkLines}
+
+-- what is written into the list; refused as 12, 14, then 13
+unfoldable pub opening : Charset → List ℕ → Result (List ℕ)
+opening set dict =
+    check (ended dict) dictionaryUnended 0
+    (check (fewLines dict) tooMany 0
+    (checkLines set dict (entriesOf dict)
+    (done (entriesOf dict))))
+
+-- the answer; a list too short for all of it is refused as 6 with the room needed
+abbrev pub openedAs : Result (List ℕ) → Opened
+openedAs (refusal number place) = record { number = number; place = place; lines = 0 }
+openedAs (done entries) = record { number = 0; place = 0; lines = length entries }
+
+unfoldable pub opened : List ℕ → Result (List ℕ) → Opened
+opened list r = openedAs (inRoom (length list) r)

@@ -1,0 +1,3 @@
+// Lines of a slice of bytes: counting them and finding one.
+
+pub mod walk;

@@ -1,0 +1,128 @@
+-- What each loop over the list has done so far, at its start, after a turn and at its end.
+use Prim.Native.Nat.{ℕ, _+_, _≤_, _<_}
+use mathlib.Core.Path.{_≡_, refl, sym, ap, _∙_}
+use mathlib.Core.List.{List, [], _∷_, _++_}
+use mathlib.Core.Bool.{true, false}
+use native.Mathlib.Numerals.{add-one}
+use native.Mathlib.Omega.{arith}
+use lib.ListN.{length, getD, take, drop, set, length-set, length-append, length-take, drop-of-length-le}
+use lib.Seq.{drop-cons, getD-take, length-take-le}
+use Rattle.run.specs.Narrowing.{entriesFrom, upTo, risingOver, rising, listed, filled}
+use Rattle.run.proofs.Filled.{filled-none, filled-read, filled-zero, filled-more, upTo-more}
+use Rattle.run.proofs.Rising.{rising-on, rising-low, rising-high, rising-end, listed-is}
+use Rattle.list.specs.Flags.{flagged}
+use Rattle.list.proofs.Flags.{flagged-set, flagged-unset}
+
+-- the entries before `at` rise up to `last`
+pub record Checking (list : List ℕ) (n count last at : ℕ) : Type 0 where
+  pub room : n ≤ length list
+  pub most : at ≤ n
+  pub same : listed (rising count) list n ≡ risingOver last count (drop at (take n list))
+
+pub checking-start : (list : List ℕ) (n count : ℕ) → n ≤ length list → Checking list n count 0 0
+checking-start list n count h = record { room = h; most = omega arith; same = listed-is (rising count) list n h }
+
+module _ {list : List ℕ} {n count last at : ℕ} (c : Checking list n count last at) where
+  turn : at < n → listed (rising count) list n ≡ risingOver last count (getD list at 0 ∷ drop (at + 1) (take n list))
+  turn h =
+      let l = length-take-le n list (c .room) in
+      let m : at < length (take n list) = omega arith in
+      c .same ∙ rw (add-one, drop-cons (take n list) at 0 m, getD-take n list at 0 h)
+
+  pub checking-low : at < n → getD list at 0 ≤ last → false ≡ listed (rising count) list n
+  checking-low h l = sym (turn h ∙ rising-low last count _ _ l)
+
+  pub checking-high : at < n → count < getD list at 0 → false ≡ listed (rising count) list n
+  checking-high h l = sym (turn h ∙ rising-high last count _ _ l)
+
+  pub checking-on : at < n → last < getD list at 0 → getD list at 0 ≤ count → Checking list n count (getD list at 0) (at + 1)
+  checking-on h l m = record { room = c .room; most = omega arith; same = turn h ∙ rising-on last count _ _ l m }
+
+  pub checking-end : n ≤ at → true ≡ listed (rising count) list n
+  checking-end h =
+      let l : length (take n list) ≤ at = omega (arith, length-take n list) in
+      sym (c .same ∙ rw (drop-of-length-le (take n list) l) (rising-end last count))
+
+-- 1 to e are written in front
+pub record Numbering (list₀ : List ℕ) (n : ℕ) (list : List ℕ) (e : ℕ) : Type 0 where
+  pub most : e ≤ n
+  pub long : length list ≡ length list₀
+  pub memory : list ≡ upTo e ++ drop e list₀
+
+pub numbering-start : (list : List ℕ) (n : ℕ) → Numbering list n list 0
+unfolding entriesFrom
+numbering-start list n = record { most = omega arith; long = refl; memory = refl }
+
+module _ {list₀ list : List ℕ} {n e : ℕ} (c : Numbering list₀ n list e) where
+  pub numbering-more : n ≤ length list₀ → e < n → Numbering list₀ n (set list e (e + 1)) (e + 1)
+  numbering-more h m = record {
+    most = omega arith;
+    long = length-set list e (e + 1) ∙ c .long;
+    memory = ap (λ l. set l e (e + 1)) (c .memory) ∙ upTo-more list₀ e (omega arith);
+  }
+
+  pub numbering-end : n ≤ e → list ≡ upTo n ++ drop n list₀
+  numbering-end h = let s : e ≡ n = omega arith in c .memory ∙ ap (λ m. upTo m ++ drop m list₀) s
+
+-- of the first i entries those kept, k of them, stand in front with zeros after them
+pub record Compacting (list₀ : List ℕ) (n : ℕ) (flags list : List ℕ) (k i : ℕ) : Type 0 where
+  pub most : i ≤ n
+  pub least : k ≤ i
+  pub long : length list ≡ length list₀
+  pub count : k ≡ length (flagged (take i list₀) flags)
+  pub memory : list ≡ filled i (flagged (take i list₀) flags) (drop i list₀)
+
+pub compacting-start : (list : List ℕ) (n : ℕ) (flags : List ℕ) → Compacting list n flags list 0 0
+unfolding flagged
+compacting-start list n flags = record { most = omega arith; least = omega arith; long = refl; count = refl; memory = sym (filled-none list) }
+
+module _ {list₀ flags list : List ℕ} {n k i : ℕ} (c : Compacting list₀ n flags list k i) where
+  pub compacting-end : n ≤ i → (k ≡ length (flagged (take n list₀) flags)) × (list ≡ filled n (flagged (take n list₀) flags) (drop n list₀))
+  compacting-end h =
+      let s : i ≡ n = omega arith in
+      (c .count ∙ ap (λ m. length (flagged (take m list₀) flags)) s, c .memory ∙ ap (λ m. filled m (flagged (take m list₀) flags) (drop m list₀)) s)
+
+  pub compacting-room : i < n → n ≤ length list₀ → (v : ℕ) → k < length (set list i v)
+  compacting-room h room v = omega (arith, c .least, c .long, length-set list i v)
+
+  module _ (h : i < n) (room : n ≤ length list₀) (flag : n ≤ length flags) where
+    kept : List ℕ
+    kept = flagged (take i list₀) flags
+
+    few : length kept ≤ i
+    unfolding kept
+    few = omega (arith, c .least, c .count)
+
+    here : list ≡ filled i kept (getD list₀ i 0 ∷ drop (i + 1) list₀)
+    unfolding kept
+    here = c .memory ∙ rw (add-one, drop-cons list₀ i 0 (omega arith))
+
+    read : getD list i 0 ≡ getD list₀ i 0
+    read = ap (λ l. getD l i 0) here ∙ filled-read i kept few (getD list₀ i 0) (drop (i + 1) list₀)
+
+    cleared : set list i 0 ≡ filled (i + 1) kept (drop (i + 1) list₀)
+    cleared = ap (λ l. set l i 0) here ∙ filled-zero i kept few (getD list₀ i 0) (drop (i + 1) list₀)
+
+    pub compacting-kept : (getD flags i 0 ≡ 0 → ⊥) → Compacting list₀ n flags (set (set list i 0) k (getD list i 0)) (k + 1) (i + 1)
+    unfolding kept
+    compacting-kept z =
+        let one = flagged-set list₀ flags i (omega arith) (omega arith) z in
+        record {
+          most = omega arith;
+          least = omega (arith, c .least);
+          long = length-set (set list i 0) k (getD list i 0) ∙ length-set list i 0 ∙ c .long;
+          count = omega (arith, c .count, ap length one, length-append kept (getD list₀ i 0 ∷ []));
+          memory = rw (cleared, read, c .count, filled-more i kept few (getD list₀ i 0) (drop (i + 1) list₀), one);
+        }
+
+    pub compacting-dropped : getD flags i 0 ≡ 0 → Compacting list₀ n flags (set list i 0) k (i + 1)
+    unfolding kept
+    compacting-dropped z =
+        let none = flagged-unset list₀ flags i (omega arith) (omega arith) z in
+        record {
+          most = omega arith;
+          least = omega (arith, c .least);
+          long = length-set list i 0 ∙ c .long;
+          count = c .count ∙ ap length (sym none);
+          memory = cleared ∙ ap (λ l. filled (i + 1) l (drop (i + 1) list₀)) (sym none);
+        }

@@ -1,0 +1,3 @@
+// The list of entry numbers in lent memory.
+
+pub mod entries;

@@ -1,0 +1,8 @@
+pub mod Tests
+pub mod Loops
+pub mod Deciding
+pub mod Rightness
+pub mod Numbers
+pub mod Bridge
+pub mod Holding
+pub mod Bench

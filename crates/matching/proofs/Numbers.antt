@@ -1,0 +1,160 @@
+-- The tests over the five numbers of an item are those over the item, where the item is valid.
+use Prim.Native.Nat.{ℕ, zero, suc, _+_, _-_, _*_, _/_, _%_, _≤_, _<_}
+use mathlib.Core.Path.{_≡_, refl, sym, ap, _∙_}
+use mathlib.Core.List.{List, [], _∷_, map}
+use mathlib.Core.Bool.{Bool, _&&_, _||_}
+use mathlib.Core.Logic.{_⊎_, inl, inr}
+use mathlib.Core.Option.{Option, none, some}
+use lib.Dec.{eqb}
+use lib.ListN.{length}
+use native.Mathlib.Omega.{arith}
+use native.Mathlib.Nat.{mod-lt, div-add-mod'}
+use borrow.Author.Tests.{ne-eqb, lt-ltb}
+use Rattle.format.specs.Format.{All, Any, choose}
+use Rattle.grammar.specs.Sign.{Spatial, Number}
+use Rattle.querygrammar.specs.Query.{Item, keyItem, rangeItem, Prefix, free, present, begins, Sought, itemsOf, kindOf}
+use Rattle.queryitem.specs.Numbers.{lowest, highest, turnOf, remainder as turn, xOf, yOf, numbersOf, bare}
+use Rattle.matching.specs.Meets.{baseOf, fillOf, rotationOf, Agrees, Satisfies, satisfies, beginsBy, prefixHolds, within, near, serves, firstFrom}
+use Rattle.matching.specs.Inner.{Base, ValidItem, ValidSought, fitsNumbers, fitsItem, servesNumbers, prefixNumbers}
+use Rattle.matching.proofs.Deciding.{Decides, alike, both, either, equal, at-most, satisfies-decides}
+
+-- A CODE AND ITS PARTS
+
+-- with the base counted from 0x100
+pub record Parts (code b f r : ℕ) : Type 0 where
+  pub base : 0x100 + b ≡ baseOf code
+  pub fill : f ≡ fillOf code
+  pub rotation : r ≡ rotationOf code
+  pub sum : code ≡ b * 96 + f * 16 + r + 1
+  pub few : f ≤ 5
+  pub least : r ≤ 15
+
+parts : (code : ℕ) → (code ≡ 0 → ⊥) → Parts code ((code - 1) / 96) ((code - 1) % 96 / 16) ((code - 1) % 96 % 16)
+parts code z =
+    let a = div-add-mod' (code - 1) 96 in
+    let b = mod-lt (code - 1) {m = 96} (omega arith) in
+    let c = div-add-mod' ((code - 1) % 96) 16 in
+    let d = mod-lt ((code - 1) % 96) {m = 16} (omega arith) in
+    record { base = refl; fill = refl; rotation = refl; sum = sum-of code z ((code - 1) / 96) ((code - 1) % 96) ((code - 1) % 96 / 16) ((code - 1) % 96 % 16) a c; few = few-of ((code - 1) % 96) ((code - 1) % 96 / 16) ((code - 1) % 96 % 16) b c; least = least-of ((code - 1) % 96 % 16) d }
+  where
+    sum-of : (code : ℕ) → (code ≡ 0 → ⊥) → (b t f r : ℕ) → b * 96 + t ≡ code - 1 → f * 16 + r ≡ t → code ≡ b * 96 + f * 16 + r + 1
+    sum-of zero z b t f r a c = absurd (z refl)
+    sum-of (suc code) z b t f r a c = omega arith
+
+    few-of : (t f r : ℕ) → t < 96 → f * 16 + r ≡ t → f ≤ 5
+    few-of t f r h c = omega arith
+
+    least-of : (r : ℕ) → r < 16 → r ≤ 15
+    least-of r h = omega arith
+
+-- a code's remainder by 16, from its rotation
+remainder : (code b f r : ℕ) → code ≡ b * 96 + f * 16 + r + 1 → r ≤ 15 → code % 16 ≡ (r + 1) % 16
+remainder code b f r e h = omega arith
+
+-- KEYS AND RANGES
+
+-- what the numbers ask of a code
+abbrev Asks : Item → ℕ → Type 0
+Asks item code = (lowest item ≤ code) × ((code ≤ highest item) × ((turn item ≡ 16) ⊎ (code % 16 ≡ turn item)))
+
+numbers-decide : (item : Item) (code : ℕ) → Decides (fitsNumbers (lowest item) (highest item) (turn item) code) (Asks item code)
+unfolding fitsNumbers
+numbers-decide item code =
+    both (at-most (lowest item) code) (both (at-most code (highest item)) (either (equal (turn item) 16) (equal (code % 16) (turn item))))
+
+module _ (code b f r : ℕ) (p : Parts code b f r) where
+  turn-to : (rotation : Option ℕ) → Any (λ r. r ≤ 15) rotation → (turnOf rotation ≡ 16) ⊎ (code % 16 ≡ turnOf rotation) → Agrees rotation (rotationOf code)
+  turn-to none ok t = tt
+  turn-to (some k) ok (inl e) = absurd (let h = mod-lt (k + 1) {m = 16} (omega arith) in omega arith)
+  turn-to (some k) ok (inr e) = sym (p .rotation) ∙ equal-turns r k (p .least) ok (sym (remainder code b f r (p .sum) (p .least)) ∙ e)
+    where
+      equal-turns : (r k : ℕ) → r ≤ 15 → k ≤ 15 → (r + 1) % 16 ≡ (k + 1) % 16 → r ≡ k
+      equal-turns r k h l e = omega arith
+
+  turn-from : (rotation : Option ℕ) → Agrees rotation (rotationOf code) → (turnOf rotation ≡ 16) ⊎ (code % 16 ≡ turnOf rotation)
+  turn-from none a = inl refl
+  turn-from (some k) a = inr (remainder code b f r (p .sum) (p .least) ∙ ap (λ r. (r + 1) % 16) (p .rotation ∙ a))
+
+  span-to : (base : ℕ) (fill rotation : Option ℕ) → Base base → Any (λ f. f ≤ 5) fill → lowest (keyItem base fill rotation) ≤ code → code ≤ highest (keyItem base fill rotation)
+      → (baseOf code ≡ base) × Agrees fill (fillOf code)
+  span-to base none rotation v ok l h =
+      let u : 0x100 + b ≡ base = omega (arith, p .sum, p .few, p .least, v .0) in
+      (sym (p .base) ∙ u, tt)
+  span-to base (some k) rotation v ok l h =
+      let u : 0x100 + b ≡ base = omega (arith, p .sum, p .few, p .least, v .0) in
+      let w : f ≡ k = omega (arith, p .sum, p .few, p .least, v .0) in
+      (sym (p .base) ∙ u, sym (p .fill) ∙ w)
+
+  span-from : (base : ℕ) (fill rotation : Option ℕ) → baseOf code ≡ base → Agrees fill (fillOf code)
+      → (lowest (keyItem base fill rotation) ≤ code) × (code ≤ highest (keyItem base fill rotation))
+  span-from base none rotation e a =
+      let u : 0x100 + b ≡ base = p .base ∙ e in
+      (omega (arith, p .sum, p .few, p .least), omega (arith, p .sum, p .few, p .least))
+  span-from base (some k) rotation e a =
+      let u : 0x100 + b ≡ base = p .base ∙ e in
+      let w : f ≡ k = p .fill ∙ a in
+      (omega (arith, p .sum, p .few, p .least), omega (arith, p .sum, p .few, p .least))
+
+  asks-to : (item : Item) → ValidItem item → (code ≡ 0 → ⊥) → Asks item code → Satisfies item code
+  asks-to (keyItem base fill rotation) v z a =
+      let s = span-to base fill rotation (v .0) (v .1 .0) (a .0) (a .1 .0) in
+      (z, (s .0, (s .1, turn-to rotation (v .1 .1) (a .1 .1))))
+  asks-to (rangeItem from to) v z a =
+      let l : from ≤ 0x100 + b = omega (arith, p .sum, p .few, p .least, v .0 .0, a .0) in
+      let h : 0x100 + b ≤ to = omega (arith, p .sum, p .few, p .least, v .1 .0, a .1 .0) in
+      (z, (rw (p .base) at l, rw (p .base) at h))
+
+  asks-from : (item : Item) → ValidItem item → Satisfies item code → Asks item code
+  asks-from (keyItem base fill rotation) v s =
+      let k = span-from base fill rotation (s .1 .0) (s .1 .1 .0) in
+      (k .0, (k .1, turn-from rotation (s .1 .1 .1)))
+  asks-from (rangeItem from to) v s =
+      let l : from ≤ 0x100 + b = rw (← p .base) at (s .1 .0) in
+      let h : 0x100 + b ≤ to = rw (← p .base) at (s .1 .1) in
+      (omega (arith, p .sum, p .few, p .least, v .0 .0), (omega (arith, p .sum, p .few, p .least, v .1 .0), inl refl))
+
+-- the lowest code is 1 at least
+lowest-some : (item : Item) → 1 ≤ lowest item
+lowest-some (keyItem base none rotation) = omega arith
+lowest-some (keyItem base (some fill) rotation) = omega arith
+lowest-some (rangeItem from to) = omega arith
+
+pub fits-item : (item : Item) (code : ℕ) → ValidItem item → fitsNumbers (lowest item) (highest item) (turn item) code ≡ satisfies item code
+fits-item item code v =
+    alike (numbers-decide item code) (satisfies-decides item code)
+    (λ a. let z : code ≡ 0 → ⊥ = λ e. omega (arith, lowest-some item, a .0) in asks-to code _ _ _ (parts code z) item v z a)
+    (λ s. asks-from code _ _ _ (parts code (s .0)) item v s)
+
+-- A SIGNBOX ITEM, AND THE PREFIX CONDITION
+
+near-item : (variance : ℕ) (o : Option (ℕ × ℕ)) (symbol : Spatial) → Any (λ p. Number (p .0) × Number (p .1)) o
+    → (eqb (xOf o) 0 || (within variance (xOf o) (symbol .x) && within variance (yOf o) (symbol .y))) ≡ near variance o symbol
+near-item variance none symbol ok = refl
+near-item variance (some p) symbol ok = rw (ne-eqb (p .0) 0 (λ e. omega (arith, ok .0 .0))) refl
+
+serves-item : (variance : ℕ) (sought : Sought) (symbol : Spatial) → ValidSought sought → servesNumbers variance (numbersOf sought) symbol ≡ serves variance sought symbol
+unfolding servesNumbers serves
+serves-item variance sought symbol v =
+    λ i. fits-item (sought .item) (symbol .code) (v .0) i && near-item variance (sought .coordinate) symbol (v .1) i
+
+first-alike : {A : Type 0} (f g : A → Bool) → ((a : A) → f a ≡ g a) → (k : ℕ) (l : List A) → firstFrom k f l ≡ firstFrom k g l
+first-alike f g e k [] = refl
+first-alike f g e k (a ∷ l) = λ i. choose (e a i) k (first-alike f g e (k + 1) l i)
+
+pub witnesses-alike : (variance : ℕ) (symbols : List Spatial) (l : List Sought) → All ValidSought l
+    → map (λ n. firstFrom 1 (servesNumbers variance n) symbols) (map numbersOf l) ≡ map (λ sought. firstFrom 1 (serves variance sought) symbols) l
+witnesses-alike variance symbols [] v = refl
+witnesses-alike variance symbols (s ∷ l) v =
+    λ i. first-alike (servesNumbers variance (numbersOf s)) (serves variance s) (λ symbol. serves-item variance s symbol (v .0)) 1 symbols i ∷ witnesses-alike variance symbols l (v .1) i
+
+begins-alike : (l : List Item) (codes : List ℕ) → All ValidItem l → beginsBy fitsItem (map bare l) codes ≡ beginsBy satisfies l codes
+begins-alike [] codes v = refl
+begins-alike (item ∷ l) [] v = refl
+begins-alike (item ∷ l) (code ∷ codes) v = λ i. fits-item item code (v .0) i && begins-alike l codes (v .1) i
+
+pub prefix-alike : (p : Prefix) (codes : List ℕ) → All ValidItem (itemsOf p) → prefixNumbers (kindOf p) (map bare (itemsOf p)) codes ≡ prefixHolds p codes
+unfolding prefixNumbers prefixHolds
+prefix-alike free codes v = refl
+prefix-alike present [] v = refl
+prefix-alike present (code ∷ codes) v = lt-ltb 0 (suc (length codes)) (omega arith)
+prefix-alike (begins items) codes v = begins-alike items codes v

@@ -1,0 +1,3 @@
+pub mod Meets
+pub mod MeetsLaws
+pub mod Inner

@@ -1,0 +1,8 @@
+-- The laws of shifting and centring.
+use Rattle.charset.specs.declared.Charset.{Charset}
+use Rattle.moving.specs.MovingLaws.{MovingLaws}
+use Rattle.moving.proofs.Unmoved.{still}
+use Rattle.moving.proofs.Recentred.{again}
+
+pub moving-laws : (set : Charset) → MovingLaws set
+moving-laws set = record { still = still set; again = again set }

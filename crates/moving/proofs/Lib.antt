@@ -1,0 +1,10 @@
+pub mod Signed
+pub mod Numbers
+pub mod Axes
+pub mod Signs
+pub mod Writings
+pub mod Unmoved
+pub mod Along
+pub mod Recentred
+pub mod Laws
+pub mod Rows

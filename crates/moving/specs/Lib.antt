@@ -1,0 +1,4 @@
+pub mod Moves
+pub mod MovingLaws
+pub mod CentringRows
+pub mod Inner

@@ -1,0 +1,3 @@
+// Moving the numbers of a sign that lies in arrays.
+
+pub mod writing;

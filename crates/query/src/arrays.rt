@@ -1,0 +1,357 @@
+// Reading a query into lent arrays: every item is read and counted, and the first 32 are kept.
+ghost use mathlib.Core.Path.{_≡_};
+ghost use Prim.Native.Nat.{_+_, _≤_};
+ghost use lib.ListN.{length, set as setAt};
+ghost use Rattle.reader.specs.Signs.{zeros};
+ghost use Rattle.query.specs.Inner.{orEarlier, noted, ItemsIn, TailIn, Asks, OpensWith, Prefixed, TextInto, ReadInto, noDraft, noHead, judged};
+use queryitem::reading::Numbers;
+use queryitem::reading::Piece;
+use reader::arrays::put32;
+use token::reading::Token;
+use token::refusal::DONE;
+use token::refusal::PREFIX_LONG;
+use token::refusal::RANGE_REVERSED;
+use token::refusal::SIGNBOX_LONG;
+use token::refusal::TEXT_SHORT;
+use token::refusal::TEXT_WRONG;
+
+// How many items were read into lent arrays, the offset after them, and that of the first reversed range or 0;
+// or the refusal.
+pub struct Count {
+    pub number: u8,
+    pub place: usize,
+    pub count: usize,
+    pub reversed: usize,
+}
+
+fn no_count(number: u8, place: usize) -> Count
+    ensures { λ r. ⌜ r ≡ record { number = number; place = place; count = 0; reversed = 0 } ⌝ }
+{
+    Count {
+        number: number,
+        place: place,
+        count: 0,
+        reversed: 0,
+    }
+}
+
+// The earlier of two offsets, of which 0 is none.
+fn or_earlier(earlier: usize, later: usize) -> usize
+    ensures { λ r. ⌜ r ≡ orEarlier earlier later ⌝ }
+{
+    if earlier != 0 {
+        return earlier;
+    }
+    later
+}
+
+// The offset of the first reversed range, where an item stands at an offset after an earlier one.
+fn note(earlier: usize, item: Numbers, at: usize) -> usize
+    ensures { λ r. ⌜ r ≡ orEarlier earlier (noted item at) ⌝ }
+{
+    if item.hi < item.lo {
+        return or_earlier(earlier, at);
+    }
+    or_earlier(earlier, 0)
+}
+
+// The numbers of an item, where there is room for them.
+fn put_item(
+    lo: &mut [u16; 32],
+    hi: &mut [u16; 32],
+    turn: &mut [u16; 32],
+    xs: &mut [u16; 32],
+    ys: &mut [u16; 32],
+    n: usize,
+    item: Numbers,
+)
+    requires { ⌜ (length (now lo) ≡ 32) × (length (now hi) ≡ 32) × (length (now turn) ≡ 32) × (length (now xs) ≡ 32) × (length (now ys) ≡ 32) ⌝ }
+    ensures low { λ r. ⌜ now (lo .exit) ≡ setAt (now (lo .entry)) n (item .lo) ⌝ }
+    ensures high { λ r. ⌜ now (hi .exit) ≡ setAt (now (hi .entry)) n (item .hi) ⌝ }
+    ensures turned { λ r. ⌜ now (turn .exit) ≡ setAt (now (turn .entry)) n (item .turn) ⌝ }
+    ensures across { λ r. ⌜ now (xs .exit) ≡ setAt (now (xs .entry)) n (item .x) ⌝ }
+    ensures down { λ r. ⌜ now (ys .exit) ≡ setAt (now (ys .entry)) n (item .y) ⌝ }
+{
+    put32(lo, n, item.lo);
+    put32(hi, n, item.hi);
+    put32(turn, n, item.turn);
+    put32(xs, n, item.x);
+    put32(ys, n, item.y);
+}
+
+// Items of the signbox or of the prefix as far as they go: all are counted, and the first 32 kept.
+fn items_into(
+    s: &[u8],
+    at: usize,
+    boxed: bool,
+    lo: &mut [u16; 32],
+    hi: &mut [u16; 32],
+    turn: &mut [u16; 32],
+    xs: &mut [u16; 32],
+    ys: &mut [u16; 32],
+) -> Count
+    requires { ⌜ (1 ≤ at) × (at ≤ length (now s)) × (now lo ≡ zeros 32) × (now hi ≡ zeros 32) × (now turn ≡ zeros 32) × (now xs ≡ zeros 32) × (now ys ≡ zeros 32) ⌝ }
+    ensures { λ r. ⌜ ItemsIn boxed (now (s .entry)) at r (now (lo .exit)) (now (hi .exit)) (now (turn .exit)) (now (xs .exit)) (now (ys .exit)) ⌝ }
+{
+    let mut n: usize = 0;
+    let mut i = at;
+    let mut reversed: usize = 0;
+    while i < s.len() {
+        match queryitem::reading::sought_at(s, i, boxed) {
+            Piece::Found(item, next) => {
+                put_item(lo, hi, turn, xs, ys, n, item);
+                reversed = note(reversed, item, i);
+                n += 1;
+                i = next;
+            }
+            Piece::Wrong(p) => {
+                if p == i {
+                    return Count {
+                        number: DONE,
+                        place: i,
+                        count: n,
+                        reversed: reversed,
+                    };
+                }
+                return no_count(TEXT_WRONG, p);
+            }
+            Piece::Short => {
+                return no_count(TEXT_SHORT, s.len());
+            }
+        }
+    }
+    Count {
+        number: DONE,
+        place: i,
+        count: n,
+        reversed: reversed,
+    }
+}
+
+// What a text says beside the arrays, before the limits and the order of ranges.
+pub struct Draft {
+    pub number: u8,
+    pub place: usize,
+    pub kind: u8,
+    pub prefix_count: usize,
+    pub item_count: usize,
+    pub variance: u16,
+    pub reversed: usize,
+}
+
+fn no_draft(number: u8, place: usize) -> Draft
+    ensures { λ r. ⌜ r ≡ noDraft number place ⌝ }
+{
+    Draft {
+        number: number,
+        place: place,
+        kind: 0,
+        prefix_count: 0,
+        item_count: 0,
+        variance: 0,
+        reversed: 0,
+    }
+}
+
+// The signbox items and the variance, up to the end of the text, after a prefix condition of a kind, with so many
+// items, of which the first that is reversed stands at an offset.
+fn tail_into(
+    s: &[u8],
+    at: usize,
+    kind: u8,
+    before: usize,
+    earlier: usize,
+    lo: &mut [u16; 32],
+    hi: &mut [u16; 32],
+    turn: &mut [u16; 32],
+    xs: &mut [u16; 32],
+    ys: &mut [u16; 32],
+) -> Draft
+    requires { ⌜ (1 ≤ at) × (at ≤ length (now s)) × (now lo ≡ zeros 32) × (now hi ≡ zeros 32) × (now turn ≡ zeros 32) × (now xs ≡ zeros 32) × (now ys ≡ zeros 32) ⌝ }
+    ensures { λ r. ⌜ TailIn (now (s .entry)) at kind before earlier r (now (lo .exit)) (now (hi .exit)) (now (turn .exit)) (now (xs .exit)) (now (ys .exit)) ⌝ }
+{
+    let t = items_into(s, at, true, lo, hi, turn, xs, ys);
+    let number = t.number;
+    let place = t.place;
+    if number != DONE {
+        return no_draft(number, place);
+    }
+    match super::variance::variance_end(s, place) {
+        Token::Value(v) => Draft {
+            number: DONE,
+            place: 0,
+            kind: kind,
+            prefix_count: before,
+            item_count: t.count,
+            variance: v,
+            reversed: or_earlier(earlier, t.reversed),
+        },
+        Token::Wrong(p) => no_draft(TEXT_WRONG, p),
+        Token::Short => no_draft(TEXT_SHORT, s.len()),
+    }
+}
+
+// The items of the prefix after their A, the T, and what follows.
+fn prefixed_into(
+    s: &[u8],
+    plo: &mut [u16; 32],
+    phi: &mut [u16; 32],
+    pturn: &mut [u16; 32],
+    lo: &mut [u16; 32],
+    hi: &mut [u16; 32],
+    turn: &mut [u16; 32],
+    xs: &mut [u16; 32],
+    ys: &mut [u16; 32],
+) -> Draft
+    requires { ⌜ Prefixed (now s) × (now plo ≡ zeros 32) × (now phi ≡ zeros 32) × (now pturn ≡ zeros 32) × (now lo ≡ zeros 32) × (now hi ≡ zeros 32) × (now turn ≡ zeros 32) × (now xs ≡ zeros 32) × (now ys ≡ zeros 32) ⌝ }
+    ensures { λ r. ⌜ TextInto (now (s .entry)) r (now (plo .exit)) (now (phi .exit)) (now (pturn .exit)) (now (lo .exit)) (now (hi .exit)) (now (turn .exit)) (now (xs .exit)) (now (ys .exit)) ⌝ }
+{
+    let mut px = [0u16; 32];
+    let mut py = [0u16; 32];
+    let t = items_into(s, 2, false, plo, phi, pturn, &mut px, &mut py);
+    let number = t.number;
+    let place = t.place;
+    let count = t.count;
+    if number != DONE {
+        return no_draft(number, place);
+    }
+    if count == 0 {
+        if place < s.len() {
+            return no_draft(TEXT_WRONG, place);
+        }
+        return no_draft(TEXT_SHORT, s.len());
+    }
+    match token::reading::byte_at(s, place, 84) {
+        Token::Value(_) => tail_into(s, place + 1, 2, count, t.reversed, lo, hi, turn, xs, ys),
+        Token::Wrong(p) => no_draft(TEXT_WRONG, p),
+        Token::Short => no_draft(TEXT_SHORT, s.len()),
+    }
+}
+
+// What follows the Q: 1 where it is T, 2 where it is the A of a prefix, and otherwise 0.
+fn opens_with(s: &[u8]) -> u8
+    requires { ⌜ 1 ≤ length (now s) ⌝ }
+    ensures { λ r. ⌜ OpensWith (now (s .entry)) r ⌝ }
+{
+    match token::reading::byte_at(s, 1, 84) {
+        Token::Value(_) => 1,
+        Token::Wrong(_) => match token::reading::byte_at(s, 1, 65) {
+            Token::Value(_) => 2,
+            Token::Wrong(_) => 0,
+            Token::Short => 0,
+        },
+        Token::Short => 0,
+    }
+}
+
+// What follows the Q.
+fn after_q_into(
+    s: &[u8],
+    plo: &mut [u16; 32],
+    phi: &mut [u16; 32],
+    pturn: &mut [u16; 32],
+    lo: &mut [u16; 32],
+    hi: &mut [u16; 32],
+    turn: &mut [u16; 32],
+    xs: &mut [u16; 32],
+    ys: &mut [u16; 32],
+) -> Draft
+    requires { ⌜ Asks (now s) × (now plo ≡ zeros 32) × (now phi ≡ zeros 32) × (now pturn ≡ zeros 32) × (now lo ≡ zeros 32) × (now hi ≡ zeros 32) × (now turn ≡ zeros 32) × (now xs ≡ zeros 32) × (now ys ≡ zeros 32) ⌝ }
+    ensures { λ r. ⌜ TextInto (now (s .entry)) r (now (plo .exit)) (now (phi .exit)) (now (pturn .exit)) (now (lo .exit)) (now (hi .exit)) (now (turn .exit)) (now (xs .exit)) (now (ys .exit)) ⌝ }
+{
+    let kind = opens_with(s);
+    if kind == 2 {
+        return prefixed_into(s, plo, phi, pturn, lo, hi, turn, xs, ys);
+    }
+    tail_into(s, 1 + kind as usize, kind, 0, 0, lo, hi, turn, xs, ys)
+}
+
+// The query that a text says, whatever the counts and the order of ranges.
+fn text_into(
+    s: &[u8],
+    plo: &mut [u16; 32],
+    phi: &mut [u16; 32],
+    pturn: &mut [u16; 32],
+    lo: &mut [u16; 32],
+    hi: &mut [u16; 32],
+    turn: &mut [u16; 32],
+    xs: &mut [u16; 32],
+    ys: &mut [u16; 32],
+) -> Draft
+    requires { ⌜ (now plo ≡ zeros 32) × (now phi ≡ zeros 32) × (now pturn ≡ zeros 32) × (now lo ≡ zeros 32) × (now hi ≡ zeros 32) × (now turn ≡ zeros 32) × (now xs ≡ zeros 32) × (now ys ≡ zeros 32) ⌝ }
+    ensures { λ r. ⌜ TextInto (now (s .entry)) r (now (plo .exit)) (now (phi .exit)) (now (pturn .exit)) (now (lo .exit)) (now (hi .exit)) (now (turn .exit)) (now (xs .exit)) (now (ys .exit)) ⌝ }
+{
+    match token::reading::byte_at(s, 0, 81) {
+        Token::Value(_) => after_q_into(s, plo, phi, pturn, lo, hi, turn, xs, ys),
+        Token::Wrong(p) => no_draft(TEXT_WRONG, p),
+        Token::Short => no_draft(TEXT_SHORT, s.len()),
+    }
+}
+
+// What a reading says beside the arrays that it was lent.
+pub struct Head {
+    pub number: u8,
+    pub place: usize,
+    pub kind: u8,
+    pub prefix_count: usize,
+    pub item_count: usize,
+    pub variance: u16,
+}
+
+fn no_head(number: u8, place: usize) -> Head
+    ensures { λ r. ⌜ r ≡ noHead number place ⌝ }
+{
+    Head {
+        number: number,
+        place: place,
+        kind: 0,
+        prefix_count: 0,
+        item_count: 0,
+        variance: 0,
+    }
+}
+
+// The limits and the order of ranges are judged after the text.
+fn judge(d: Draft) -> Head
+    ensures { λ r. ⌜ r ≡ judged d ⌝ }
+{
+    let number = d.number;
+    if number != DONE {
+        return no_head(number, d.place);
+    }
+    if 32 < d.prefix_count {
+        return no_head(PREFIX_LONG, 0);
+    }
+    if 32 < d.item_count {
+        return no_head(SIGNBOX_LONG, 0);
+    }
+    if d.reversed != 0 {
+        return no_head(RANGE_REVERSED, d.reversed);
+    }
+    Head {
+        number: DONE,
+        place: 0,
+        kind: d.kind,
+        prefix_count: d.prefix_count,
+        item_count: d.item_count,
+        variance: d.variance,
+    }
+}
+
+// Reads a query into lent arrays of zeros.
+pub fn read_into(
+    s: &[u8],
+    plo: &mut [u16; 32],
+    phi: &mut [u16; 32],
+    pturn: &mut [u16; 32],
+    lo: &mut [u16; 32],
+    hi: &mut [u16; 32],
+    turn: &mut [u16; 32],
+    xs: &mut [u16; 32],
+    ys: &mut [u16; 32],
+) -> Head
+    requires { ⌜ (now plo ≡ zeros 32) × (now phi ≡ zeros 32) × (now pturn ≡ zeros 32) × (now lo ≡ zeros 32) × (now hi ≡ zeros 32) × (now turn ≡ zeros 32) × (now xs ≡ zeros 32) × (now ys ≡ zeros 32) ⌝ }
+    ensures { λ r. ⌜ ReadInto (now (s .entry)) r (now (plo .exit)) (now (phi .exit)) (now (pturn .exit)) (now (lo .exit)) (now (hi .exit)) (now (turn .exit)) (now (xs .exit)) (now (ys .exit)) ⌝ }
+{
+    judge(text_into(s, plo, phi, pturn, lo, hi, turn, xs, ys))
+}

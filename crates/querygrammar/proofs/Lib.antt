@@ -1,0 +1,4 @@
+pub mod Open
+pub mod Begun
+pub mod Query
+pub mod QueryLaws

@@ -1,0 +1,1 @@
+// The grammar of a query in FSW form: defined in specs/, with its laws in proofs/.

@@ -1,0 +1,30 @@
+use Rattle.queryitem.specs.Pieces.{failedAs}
+use borrow.Author.Needs.{needs}
+use Rattle.queryitem.proofs.reading.failed.Statement.{statement}
+use Rattle.queryitem.proofs.reading.failed.Tie as tie
+use Rattle.queryitem.proofs.reading.failed.Reads as reads
+use Rattle.queryitem.proofs.reading.failed.Lts as lts
+
+enum-told : tie.Need-enum-told
+enum-told c = search needs
+
+enum-known-t : tie.Need-enum-known-t
+enum-known-t c = search needs
+
+enum-told-2 : tie.Need-enum-told-2
+enum-told-2 c = search needs
+
+returns : tie.Need-returns
+unfolding failedAs
+returns c = rw (c .enum-told .given .1)
+
+returns-2 : tie.Need-returns-2
+unfolding failedAs
+returns-2 c = rw (c .before .t .given .1)
+
+returns-3 : tie.Need-returns-3
+unfolding failedAs
+returns-3 c = rw (c .enum-told2 .given .1)
+
+pub failed-spec : {M : Type 1} → statement M
+failed-spec = tie.close (tie.spec enum-told enum-known-t enum-told-2 returns returns-2 returns-3)

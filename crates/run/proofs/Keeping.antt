@@ -1,0 +1,60 @@
+-- Laws of `keep`.
+use Prim.Native.Nat.{suc, _≤_, zero-le}
+use mathlib.Core.Path.{_≡_, refl, ap, _∙_}
+use mathlib.Core.List.{List, [], _∷_}
+use mathlib.Core.Bool.{Bool, true, false, _&&_}
+use native.Mathlib.Omega.{arith}
+use lib.ListN.{length}
+use Rattle.format.specs.Format.{choose, All}
+use Rattle.run.specs.Narrowing.{keep}
+
+pub keep-length : {A : Type 0} (test : A → Bool) (l : List A) → length (keep test l) ≤ length l
+unfolding keep
+keep-length test [] = zero-le
+keep-length test (a ∷ l) = go (test a) (keep-length test l)
+  where
+    go : (t : Bool) → length (keep test l) ≤ length l → length (choose t (a ∷ keep test l) (keep test l)) ≤ suc (length l)
+    go true h = omega arith
+    go false h = omega arith
+
+pub keep-keep : {A : Type 0} (p q : A → Bool) (l : List A) → keep q (keep p l) ≡ keep (λ a. p a && q a) l
+unfolding keep
+keep-keep p q [] = refl
+keep-keep {A} p q (a ∷ l) = go (p a) (keep-keep p q l)
+  where
+    both : A → Bool
+    both a = p a && q a
+
+    go : (t : Bool) → keep q (keep p l) ≡ keep both l → keep q (choose t (a ∷ keep p l) (keep p l)) ≡ choose (t && q a) (a ∷ keep both l) (keep both l)
+    go true h = ap (λ k. choose (q a) (a ∷ k) k) h
+    go false h = h
+
+pub keep-every : {A : Type 0} (l : List A) → keep (λ a. true) l ≡ l
+unfolding keep
+keep-every [] = refl
+keep-every (a ∷ l) = ap (λ k. a ∷ k) (keep-every l)
+
+-- tests that agree on every element keep the same
+pub keep-same : {A : Type 0} (p q : A → Bool) (l : List A) → All (λ a. p a ≡ q a) l → keep p l ≡ keep q l
+unfolding keep
+keep-same p q [] h = refl
+keep-same p q (a ∷ l) h =
+    ap (λ t. choose t (a ∷ keep p l) (keep p l)) (h .0) ∙ ap (λ k. choose (q a) (a ∷ k) k) (keep-same p q l (h .1))
+
+-- what holds of every element holds of those kept
+pub keep-all : {A : Type 0} (P : A → Type 0) (test : A → Bool) (l : List A) → All P l → All P (keep test l)
+unfolding keep
+keep-all P test [] h = h
+keep-all P test (a ∷ l) h = go (test a) (keep-all P test l (h .1))
+  where
+    go : (t : Bool) → All P (keep test l) → All P (choose t (a ∷ keep test l) (keep test l))
+    go true k = (h .0, k)
+    go false k = k
+
+pub all-of : {A : Type 0} (P : A → Type 0) → ((a : A) → P a) → (l : List A) → All P l
+all-of P h [] = tt
+all-of P h (a ∷ l) = (h a, all-of P h l)
+
+pub all-map : {A : Type 0} (P R : A → Type 0) → ((a : A) → P a → R a) → (l : List A) → All P l → All R l
+all-map P R h [] k = tt
+all-map P R h (a ∷ l) k = (h a (k .0), all-map P R h l (k .1))

@@ -1,0 +1,6 @@
+pub mod Keeping
+pub mod Rising
+pub mod Filled
+pub mod Runs
+pub mod Narrowed
+pub mod Agreement

@@ -1,0 +1,83 @@
+-- One narrowing call (document 01, "The dictionary and its list", "Refusal numbers"), over what its query, dictionary and lines come to.
+use Prim.Native.Nat.{ℕ, zero, suc, _-_}
+use mathlib.Core.List.{List, [], _∷_, _++_}
+use mathlib.Core.Bool.{Bool, true, not, _&&_}
+use lib.Dec.{ltb, leb}
+use lib.ListN.{length, take, drop, replicate}
+use Rattle.format.specs.Format.{choose}
+use Rattle.token.specs.Result.{Result, refusal, done}
+
+-- those that pass the test, in order
+unfoldable pub keep : {A : Type 0} → (A → Bool) → List A → List A
+keep test [] = []
+keep test (a ∷ l) = choose (test a) (a ∷ keep test l) (keep test l)
+
+-- n entries from k on, and entries 1 to n
+unfoldable pub entriesFrom : ℕ → ℕ → List ℕ
+entriesFrom k zero = []
+entriesFrom k (suc n) = k ∷ entriesFrom (suc k) n
+
+abbrev pub upTo : ℕ → List ℕ
+upTo n = entriesFrom 1 n
+
+-- strictly rising, each entry over the last and at most count
+unfoldable pub risingOver : ℕ → ℕ → List ℕ → Bool
+risingOver last count [] = true
+risingOver last count (e ∷ entries) = ltb last e && (leb e count && risingOver e count entries)
+
+-- strictly rising in 1 to count
+abbrev pub rising : ℕ → List ℕ → Bool
+rising count entries = risingOver 0 count entries
+
+-- n is within the list, and its first n entries pass the test of a list
+unfoldable pub listed : (List ℕ → Bool) → List ℕ → ℕ → Bool
+listed valid list n = leb n (length list) && valid (take n list)
+
+-- the first entry whose line the sign reader refuses, 0 if it reads them all
+unfoldable pub firstBad : (ℕ → Bool) → List ℕ → ℕ
+firstBad readable [] = 0
+firstBad readable (e ∷ entries) = choose (readable e) (firstBad readable entries) e
+
+abbrev pub listWrong : ℕ
+listWrong = 11
+
+abbrev pub lineWrong : ℕ
+lineWrong = 13
+
+-- The entries that a call keeps, or its refusal. A query is refused, or it tests entries; after the query come the dictionary's
+-- refusal (12, 14, or 0 for none), 11 and 13.
+unfoldable pub keptBy : Result (ℕ → Bool) → ℕ → (List ℕ → Bool) → (ℕ → Bool) → List ℕ → ℕ → Result (List ℕ)
+keptBy (refusal number place) dictionary valid readable list n = refusal number place
+keptBy (done test) dictionary valid readable list n =
+    choose (ltb 0 dictionary) (refusal dictionary 0)
+    (choose (not (listed valid list n)) (refusal listWrong 0)
+    (choose (ltb 0 (firstBad readable (take n list))) (refusal lineWrong (firstBad readable (take n list)))
+    (done (keep test (take n list)))))
+
+-- what a call answers
+pub record Call : Type 0 where
+  pub number : ℕ
+  pub place : ℕ
+  pub kept : ℕ
+  pub dropped : ℕ
+
+-- zeros but for number and place where it is refused
+unfoldable pub answerOf : ℕ → Result (List ℕ) → Call
+answerOf n (refusal number place) = record { number = number; place = place; kept = 0; dropped = 0 }
+answerOf n (done kept) = record { number = 0; place = 0; kept = length kept; dropped = n - length kept }
+
+-- entries, zeros in the places after them up to n, and the rest
+unfoldable pub filled : ℕ → List ℕ → List ℕ → List ℕ
+filled n entries rest = entries ++ (replicate (n - length entries) 0 ++ rest)
+
+-- the list memory after a call: nothing is changed beyond n, nor where it is refused
+unfoldable pub listAfter : List ℕ → ℕ → Result (List ℕ) → List ℕ
+listAfter list n (refusal number place) = list
+listAfter list n (done kept) = filled n kept (drop n list)
+
+abbrev pub narrowing : List ℕ → ℕ → Result (List ℕ) → Call × List ℕ
+narrowing list n kept = (answerOf n kept, listAfter list n kept)
+
+-- a call on a list memory and a count n: what it answers, and the list memory after it
+unfoldable pub narrowedBy : Result (ℕ → Bool) → ℕ → (List ℕ → Bool) → (ℕ → Bool) → List ℕ → ℕ → Call × List ℕ
+narrowedBy query dictionary valid readable list n = narrowing list n (keptBy query dictionary valid readable list n)
