@@ -5,4 +5,4 @@ pub mod Rightness
 pub mod Numbers
 pub mod Bridge
 pub mod Holding
-pub mod Bench
+pub mod VerdictRows

@@ -35,24 +35,23 @@ fn no_query(number: u8, place: usize) -> Reading
     ensures { λ r. ⌜ r ≡ readingOf (refusal number place) ⌝ }
 {
     let zeros = [0u16; 32];
-    let none = Query {
-        kind: 0,
-        prefix_count: 0,
-        item_count: 0,
-        variance: 0,
-        prefix_lo: zeros,
-        prefix_hi: zeros,
-        prefix_turn: zeros,
-        lo: zeros,
-        hi: zeros,
-        turn: zeros,
-        xs: zeros,
-        ys: zeros,
-    };
     Reading {
-        number: number,
-        place: place,
-        query: none,
+        number,
+        place,
+        query: Query {
+            kind: 0,
+            prefix_count: 0,
+            item_count: 0,
+            variance: 0,
+            prefix_lo: zeros,
+            prefix_hi: zeros,
+            prefix_turn: zeros,
+            lo: zeros,
+            hi: zeros,
+            turn: zeros,
+            xs: zeros,
+            ys: zeros,
+        },
     }
 }
 
@@ -83,23 +82,22 @@ pub fn read(text: &[u8]) -> Reading
     if number != DONE {
         return no_query(number, h.place);
     }
-    let query = Query {
-        kind: h.kind,
-        prefix_count: h.prefix_count,
-        item_count: h.item_count,
-        variance: h.variance,
-        prefix_lo: plo,
-        prefix_hi: phi,
-        prefix_turn: pturn,
-        lo: lo,
-        hi: hi,
-        turn: turn,
-        xs: xs,
-        ys: ys,
-    };
     Reading {
         number: DONE,
         place: 0,
-        query: query,
+        query: Query {
+            kind: h.kind,
+            prefix_count: h.prefix_count,
+            item_count: h.item_count,
+            variance: h.variance,
+            prefix_lo: plo,
+            prefix_hi: phi,
+            prefix_turn: pturn,
+            lo,
+            hi,
+            turn,
+            xs,
+            ys,
+        },
     }
 }
