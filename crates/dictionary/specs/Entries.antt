@@ -6,11 +6,11 @@ use lib.Dec.{eqb, leb}
 use lib.ListN.{length}
 use Rattle.format.specs.Format.{choose}
 use Rattle.charset.specs.declared.Charset.{Charset}
+use Rattle.token.specs.Refusal.{lineWrong}
 use Rattle.token.specs.Result.{Result, refusal, done}
 use Rattle.reader.specs.Signs.{signOf}
 use Rattle.run.specs.Narrowing.{upTo, firstBad}
 use Rattle.lines.specs.Lines.{lines, lineOf}
-use Rattle.dictionary.specs.Numbers.{lineWrong}
 
 -- refused with this number and place, unless the test holds
 abbrev pub check : {A : Type 0} → Bool → ℕ → ℕ → Result A → Result A

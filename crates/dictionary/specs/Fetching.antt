@@ -6,10 +6,10 @@ use lib.Dec.{leb, ltb}
 use lib.ListN.{length}
 use denote.Ref.{RefT, now}
 use Rattle.format.specs.Format.{choose}
+use Rattle.token.specs.Refusal.{dictionaryUnended, tooMany, entryAbsent}
 use Rattle.token.specs.Result.{Result, refusal, done}
 use Rattle.lines.specs.Lines.{lines, ended, lineOf, lineStart, placeIn}
 use Rattle.dictionary.specs.declared.Refusal.{Refusal}
-use Rattle.dictionary.specs.Numbers.{dictionaryUnended, tooMany, entryAbsent}
 use Rattle.dictionary.specs.Entries.{check, fewLines}
 
 -- line k of the first dictionary, or of the second

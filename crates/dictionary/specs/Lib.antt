@@ -1,4 +1,3 @@
-pub mod Numbers
 pub mod Entries
 pub mod Opening
 pub mod Fetching

@@ -3,10 +3,10 @@ use Prim.Native.Nat.{ℕ}
 use mathlib.Core.List.{List}
 use lib.ListN.{length}
 use Rattle.charset.specs.declared.Charset.{Charset}
+use Rattle.token.specs.Refusal.{dictionaryUnended, tooMany}
 use Rattle.token.specs.Result.{Result, refusal, done, inRoom}
 use Rattle.lines.specs.Lines.{ended}
 use Rattle.dictionary.specs.declared.Opened.{Opened}
-use Rattle.dictionary.specs.Numbers.{dictionaryUnended, tooMany}
 use Rattle.dictionary.specs.Entries.{check, fewLines, entriesOf, checkLines}
 
 -- what is written into the list; refused as 12, 14, then 13

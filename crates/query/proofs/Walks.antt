@@ -232,16 +232,15 @@ module _ (boxed : Bool) where
         → ItemsIn boxed s at r lo hi turn xs ys
     items-as r l e c h = record { is = c ∙ ap (countOf (sort boxed) (length s) at) (sym e); holds = rw e h }
 
-    all-found : locate (many f) s at ≡ found (v .done) i → ItemsIn boxed s at (record { number = 0; place = i; count = n; reversed = first }) lo hi turn xs ys
-    all-found e =
-        items-as (record { number = 0; place = i; count = n; reversed = first }) (found (v .done) i) e
-        (λ j. record { number = 0; place = i; count = v .count j; reversed = v .noticed j }) (v .held)
+    all-found : (c : Count) → locate (many f) s at ≡ found (v .done) i → c ≡ record { number = 0; place = i; count = n; reversed = first } → ItemsIn boxed s at c lo hi turn xs ys
+    all-found c e y = items-as c (found (v .done) i) e (y ∙ (λ j. record { number = 0; place = i; count = v .count j; reversed = v .noticed j })) (v .held)
 
-    pub items-stop : (p : ℕ) (r : Piece) → r ≡ soughtAt (sort boxed) s i → r ≡ Wrong p → p ≡ i → ItemsIn boxed s at (record { number = 0; place = i; count = n; reversed = first }) lo hi turn xs ys
-    items-stop p r e q z = all-found (open-stop 1 f (sort-open boxed) s at i (v .done) (v .walk) (wrong-there s i p r e q ∙ ap wrongAt z))
+    pub items-stop : (p : ℕ) (r : Piece) (c : Count) → r ≡ soughtAt (sort boxed) s i → r ≡ Wrong p → p ≡ i → c ≡ record { number = 0; place = i; count = n; reversed = first }
+        → ItemsIn boxed s at c lo hi turn xs ys
+    items-stop p r c e q z y = all-found c (open-stop 1 f (sort-open boxed) s at i (v .done) (v .walk) (wrong-there s i p r e q ∙ ap wrongAt z)) y
 
-    pub items-end : length s ≤ i → ItemsIn boxed s at (record { number = 0; place = i; count = n; reversed = first }) lo hi turn xs ys
-    items-end h = all-found (open-end 1 f (sort-open boxed) s at i (v .done) (v .walk) h)
+    pub items-end : length s ≤ i → (c : Count) → c ≡ record { number = 0; place = i; count = n; reversed = first } → ItemsIn boxed s at c lo hi turn xs ys
+    items-end h c y = all-found c (open-end 1 f (sort-open boxed) s at i (v .done) (v .walk) h) y
 
     pub items-bad : (p : ℕ) (r : Piece) (c : Count) → r ≡ soughtAt (sort boxed) s i → r ≡ Wrong p → (p ≡ i → ⊥) → c ≡ record { number = 1; place = p; count = 0; reversed = 0 }
         → ItemsIn boxed s at c lo hi turn xs ys

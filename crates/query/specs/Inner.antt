@@ -12,7 +12,7 @@ use Rattle.format.specs.Places.{Outcome, fine, refused, unfinished}
 use Rattle.format.specs.Located.{Located, found, wrongAt, cut, locate, onFound, ended}
 use Rattle.token.specs.declared.reading.Token.{Token}
 use Rattle.token.specs.declared.reading.Token.the-variants.{Value, Wrong, Short}
-use Rattle.token.specs.Refusal.{prefixLong, signboxLong}
+use Rattle.token.specs.Refusal.{prefixLong, signboxLong, rangeReversed}
 use Rattle.token.specs.Result.{Result, refusal, done, ofOutcome}
 use Rattle.reader.specs.Signs.{padded}
 use Rattle.querygrammar.specs.Query.{Item, Sought, Query as Asked, ItemText, SoughtText, Figures, TailText, QueryText, item, signboxItem, prefixItems as prefixFormat, head, figures, variance, tail, afterQ, query, itemOf, soughtOf, varianceOf, prefixOf, meaning, itemsOf, kindOf}
@@ -23,7 +23,7 @@ use Rattle.queryitem.specs.Pieces.{Sort, sort}
 use Rattle.query.specs.declared.arrays.Count.{Count}
 use Rattle.query.specs.declared.arrays.Draft.{Draft}
 use Rattle.query.specs.declared.arrays.Head.{Head}
-use Rattle.query.specs.Reading.{rangeReversed, firstReversed, headItems, reversedIn, queryOf}
+use Rattle.query.specs.Reading.{firstReversed, headItems, reversedIn, queryOf}
 
 -- what stands at the end of a text, as a number
 abbrev pub toldEnd : {A : Type 0} → (A → ℕ) → Outcome A → Token

@@ -9,7 +9,7 @@ use mathlib.Core.Option.{Option, none, some}
 use lib.Dec.{ltb}
 use lib.ListN.{length}
 use Rattle.format.specs.Format.{Format, choose, optional}
-use Rattle.token.specs.Refusal.{prefixLong, signboxLong}
+use Rattle.token.specs.Refusal.{prefixLong, signboxLong, rangeReversed}
 use Rattle.token.specs.Result.{Result, refusal, done, ofOutcome}
 use Rattle.reader.specs.Signs.{padded, zeros}
 use Rattle.querygrammar.specs.Query.{Item, keyItem, rangeItem, Sought, Prefix, free, present, begins, Query as Asked, ItemText, HeadText, SoughtText, QueryText, item, signboxItem, head, itemOf, meaning, itemsOf, kindOf}
@@ -17,9 +17,6 @@ use Rattle.querygrammar.specs.QueryLaws.{readQuery}
 use Rattle.queryitem.specs.Numbers.{lowest, highest, remainder, xOf, yOf}
 use Rattle.query.specs.declared.Query.{Query}
 use Rattle.query.specs.declared.Reading.{Reading}
-
-abbrev pub rangeReversed : ℕ
-rangeReversed = 5
 
 -- THE ORDER OF RANGES
 

@@ -24,12 +24,23 @@ pub struct Count {
     pub reversed: usize,
 }
 
+fn counted(place: usize, count: usize, reversed: usize) -> Count
+    ensures { λ r. ⌜ r ≡ record { number = 0; place = place; count = count; reversed = reversed } ⌝ }
+{
+    Count {
+        number: DONE,
+        place,
+        count,
+        reversed,
+    }
+}
+
 fn no_count(number: u8, place: usize) -> Count
     ensures { λ r. ⌜ r ≡ record { number = number; place = place; count = 0; reversed = 0 } ⌝ }
 {
     Count {
-        number: number,
-        place: place,
+        number,
+        place,
         count: 0,
         reversed: 0,
     }
@@ -106,12 +117,7 @@ fn items_into(
             }
             Piece::Wrong(p) => {
                 if p == i {
-                    return Count {
-                        number: DONE,
-                        place: i,
-                        count: n,
-                        reversed: reversed,
-                    };
+                    return counted(i, n, reversed);
                 }
                 return no_count(TEXT_WRONG, p);
             }
@@ -120,12 +126,7 @@ fn items_into(
             }
         }
     }
-    Count {
-        number: DONE,
-        place: i,
-        count: n,
-        reversed: reversed,
-    }
+    counted(i, n, reversed)
 }
 
 // What a text says beside the arrays, before the limits and the order of ranges.

@@ -78,9 +78,8 @@ pub fn read(text: &[u8]) -> Reading
         &mut xs,
         &mut ys,
     );
-    let number = h.number;
-    if number != DONE {
-        return no_query(number, h.place);
+    if h.number != DONE {
+        return no_query(h.number, h.place);
     }
     Reading {
         number: DONE,

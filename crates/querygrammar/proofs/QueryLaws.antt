@@ -4,9 +4,9 @@ use mathlib.Core.List.{List}
 use mathlib.Core.Path.{_≡_, refl}
 use mathlib.Core.Logic.{_↔_}
 use Rattle.format.specs.Places.{Outcome, fine, Means}
-use Rattle.format.proofs.Places.{exactly}
+use Rattle.format.proofs.Places.{exactly, by-bytes}
 use Rattle.querygrammar.specs.Query.{QueryText, query}
-use Rattle.querygrammar.specs.QueryLaws.{readQuery, QueryLaws}
+use Rattle.querygrammar.specs.QueryLaws.{readQuery, QueryLaws, QueryPlaces}
 use Rattle.querygrammar.proofs.Query.{query-lawful, query-ready}
 
 query-exactly : (text : List ℕ) (o : Outcome QueryText) → (readQuery text ≡ o) ↔ Means 1 query text o
@@ -18,3 +18,6 @@ query-laws = record {
   writes = λ text t e. query-exactly text (fine t) .0 e;
   places = query-exactly;
 }
+
+pub query-places : QueryPlaces
+query-places = by-bytes query query-lawful query-ready

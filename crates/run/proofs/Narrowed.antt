@@ -9,7 +9,8 @@ use lib.ListN.{length, take, drop, length-append}
 use lib.Seq.{take-append-seam}
 use Rattle.format.specs.Format.{All}
 use Rattle.token.specs.Result.{Result, refusal, done}
-use Rattle.run.specs.Narrowing.{Call, keep, rising, listed, firstBad, listWrong, lineWrong, keptBy, answerOf, filled, listAfter, narrowedBy}
+use Rattle.token.specs.Refusal.{listWrong, lineWrong}
+use Rattle.run.specs.Narrowing.{Call, keep, rising, listed, firstBad, keptBy, answerOf, filled, listAfter, narrowedBy}
 use Rattle.run.specs.Run.{accepted, passes, left, RunClaims}
 use Rattle.run.proofs.Keeping.{keep-all}
 use Rattle.run.proofs.Rising.{listed-is, rising-keep, none-bad, all-readable}

@@ -5,6 +5,7 @@ use mathlib.Core.Bool.{Bool, true, not, _&&_}
 use lib.Dec.{ltb, leb}
 use lib.ListN.{length, take, drop, replicate}
 use Rattle.format.specs.Format.{choose}
+use Rattle.token.specs.Refusal.{listWrong, lineWrong}
 use Rattle.token.specs.Result.{Result, refusal, done}
 
 -- those that pass the test, in order
@@ -37,12 +38,6 @@ listed valid list n = leb n (length list) && valid (take n list)
 unfoldable pub firstBad : (ℕ → Bool) → List ℕ → ℕ
 firstBad readable [] = 0
 firstBad readable (e ∷ entries) = choose (readable e) (firstBad readable entries) e
-
-abbrev pub listWrong : ℕ
-listWrong = 11
-
-abbrev pub lineWrong : ℕ
-lineWrong = 13
 
 -- The entries that a call keeps, or its refusal. A query is refused, or it tests entries; after the query come the dictionary's
 -- refusal (12, 14, or 0 for none), 11 and 13.

@@ -13,6 +13,9 @@ prefixLong = 3
 abbrev pub signboxLong : ℕ
 signboxLong = 4
 
+abbrev pub rangeReversed : ℕ
+rangeReversed = 5
+
 abbrev pub roomShort : ℕ
 roomShort = 6
 
@@ -28,5 +31,20 @@ noSymbols = 9
 abbrev pub numberOutside : ℕ
 numberOutside = 10
 
+abbrev pub listWrong : ℕ
+listWrong = 11
+
+abbrev pub dictionaryUnended : ℕ
+dictionaryUnended = 12
+
+abbrev pub lineWrong : ℕ
+lineWrong = 13
+
+abbrev pub tooMany : ℕ
+tooMany = 14
+
 abbrev pub codeWrong : ℕ
 codeWrong = 15
+
+abbrev pub entryAbsent : ℕ
+entryAbsent = 16

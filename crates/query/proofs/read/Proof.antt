@@ -14,10 +14,10 @@ no-query-requires : tie.Need-no-query-requires
 no-query-requires c κs = search needs
 
 returns : tie.Need-returns
-returns c = reading-refused _ _ _ _ _ _ _ _ _ _ (c .before .before .read-into .ensures) _ (c .before .if1 .taken) (c .no-query .ensures)
+returns c = reading-refused _ _ _ _ _ _ _ _ _ _ (c .before .before .before .read-into .ensures) _ (c .before .if1 .taken) (c .no-query .ensures)
 
 returns-2 : tie.Need-returns-2
-returns-2 c = reading-done _ _ _ _ _ _ _ _ _ _ (c .before .read-into .ensures) (c .if1 .left)
+returns-2 c = reading-done _ _ _ _ _ _ _ _ _ _ (c .before .before .read-into .ensures) (c .if1 .left)
 
 pub read-spec : {M : Type 1} → statement M
 read-spec = tie.close (tie.spec read-into-requires no-query-requires returns returns-2)

@@ -7,6 +7,7 @@ use Rattle.query.proofs.arrays.items_into.Statement.{statement}
 use Rattle.query.proofs.arrays.items_into.Tie as tie
 use Rattle.query.proofs.arrays.items_into.Reads as reads
 use Rattle.query.proofs.arrays.items_into.Lts as lts
+use Rattle.query.proofs.arrays.counted.Reads as counted-reads
 use Rattle.query.proofs.arrays.no_count.Reads as no-count-reads
 use Rattle.query.proofs.arrays.note.Reads as note-reads
 use Rattle.query.proofs.arrays.put_item.Reads as put-item-reads
@@ -45,8 +46,11 @@ loop-again c = items-on _ _ _ _ _ _ _ _ _ _ _ (c .before .before .before .before
 enum-known-p : tie.Need-enum-known-p Inv-loop μ-loop
 enum-known-p c = search needs
 
+counted-requires : tie.Need-counted-requires Inv-loop μ-loop
+counted-requires c κs = search needs
+
 returns : tie.Need-returns Inv-loop μ-loop
-returns c = items-stop _ _ _ _ _ _ _ _ _ _ _ (c .before .before .before .before .before .before .loop .inv) _ _ (c .before .before .before .before .sought-at .ensures) (c .before .before .p .given .1) (c .if1 .taken)
+returns c = items-stop _ _ _ _ _ _ _ _ _ _ _ (c .before .before .before .before .before .before .before .loop .inv) _ _ _ (c .before .before .before .before .before .sought-at .ensures) (c .before .before .before .p .given .1) (c .before .if1 .taken) (c .counted .ensures)
 
 no-count-requires : tie.Need-no-count-requires Inv-loop μ-loop
 no-count-requires c κs = search needs
@@ -63,8 +67,11 @@ no-count-requires-2 c κs = search needs
 returns-3 : tie.Need-returns-3 Inv-loop μ-loop
 returns-3 c = items-cut _ _ _ _ _ _ _ _ _ _ _ (c .before .before .before .before .before .loop .inv) (c .before .before .before .before .loop-test .taken) _ _ (c .before .before .before .sought-at .ensures) (c .before .enum-told .given .1) (c .no-count2 .ensures)
 
+counted-requires-2 : tie.Need-counted-requires-2 Inv-loop μ-loop
+counted-requires-2 c κs = search needs
+
 returns-4 : tie.Need-returns-4 Inv-loop μ-loop
-returns-4 c = items-end _ _ _ _ _ _ _ _ _ _ _ (c .before .loop .inv) (c .loop-test .left)
+returns-4 c = items-end _ _ _ _ _ _ _ _ _ _ _ (c .before .before .loop .inv) (c .before .loop-test .left) _ (c .counted2 .ensures)
 
 pub items-into-spec : {M : Type 1} → statement M
 items-into-spec =
@@ -81,10 +88,12 @@ items-into-spec =
     loop-less
     loop-again
     enum-known-p
+    counted-requires
     returns
     no-count-requires
     returns-2
     enum-told
     no-count-requires-2
     returns-3
+    counted-requires-2
     returns-4)
