@@ -15,7 +15,7 @@ use Rattle.token.specs.Result.{Result, refusal, done}
 use Rattle.lines.specs.Lines.{lines, ended, lineOf, lineStart, placeIn}
 use Rattle.lines.proofs.Laws.{line-laws}
 use Rattle.dictionary.specs.declared.Refusal.{Refusal}
-use Rattle.dictionary.specs.Entries.{check, fewLines}
+use Rattle.entries.specs.Entries.{check, fewLines}
 use Rattle.dictionary.specs.Fetching.{Entry, inFirst, inSecond, entryOf, fetching, refusalAs, fetchedLine, fetchedPlace, FetchLaws}
 
 module _ (d s : List ℕ) (k : ℕ) where

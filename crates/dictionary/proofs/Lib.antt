@@ -1,3 +1,5 @@
-pub mod Lines
 pub mod Openings
+pub mod Narrowings
+pub mod Plain
+pub mod Demand3
 pub mod Fetches

@@ -10,7 +10,7 @@ use Rattle.token.specs.Result.{Result, refusal, done, output}
 use Rattle.lines.specs.Lines.{lines, ended}
 use Rattle.dictionary.specs.declared.Opened.{Opened}
 use Rattle.run.specs.Narrowing.{entriesFrom}
-use Rattle.dictionary.specs.Entries.{firstWrong}
+use Rattle.entries.specs.Entries.{firstWrong}
 use Rattle.dictionary.specs.Opening.{opening, opened}
 use Rattle.run.proofs.Rising.{entries-length}
 

@@ -10,7 +10,7 @@ use Rattle.token.specs.Refusal.{dictionaryUnended, tooMany, entryAbsent}
 use Rattle.token.specs.Result.{Result, refusal, done}
 use Rattle.lines.specs.Lines.{lines, ended, lineOf, lineStart, placeIn}
 use Rattle.dictionary.specs.declared.Refusal.{Refusal}
-use Rattle.dictionary.specs.Entries.{check, fewLines}
+use Rattle.entries.specs.Entries.{check, fewLines}
 
 -- line k of the first dictionary, or of the second
 pub data Entry : Type 0 where

@@ -1,3 +1,5 @@
-pub mod Entries
 pub mod Opening
+pub mod Narrowing
+pub mod Inner
+pub mod Demand3
 pub mod Fetching

@@ -1,12 +1,14 @@
-// Dictionaries: opening one into a list of entry numbers, and fetching a line from two of them.
+// Dictionaries: opening one into a list of entry numbers, narrowing the list, and fetching a line from two of them.
 ghost use mathlib.Core.Path.{_≡_};
 ghost use Rattle.token.specs.Result.{output};
 ghost use Rattle.dictionary.specs.Opening.{opening, opened};
+ghost use Rattle.dictionary.specs.Narrowing.{narrowed};
 ghost use Rattle.dictionary.specs.Fetching.{fetching, fetchedLine, fetchedPlace, refusalAs};
 use charset::Charset;
 use lines::walk::count;
 use lines::walk::is_ended;
 use lines::walk::line;
+use run::Narrowed;
 use token::refusal::DICTIONARY_UNENDED;
 use token::refusal::DONE;
 use token::refusal::ENTRY_ABSENT;
@@ -14,10 +16,10 @@ use token::refusal::LINE_WRONG;
 use token::refusal::ROOM_SHORT;
 use token::refusal::TOO_MANY;
 
-pub mod entries;
+pub mod narrowing;
 
 // of one dictionary
-const MOST_LINES: usize = 65535;
+pub const MOST_LINES: usize = 65535;
 
 // What opening answers: the line count.
 pub struct Opened {
@@ -54,7 +56,7 @@ pub fn open(set: Charset, dict: &[u8], list: &mut [u16]) -> Opened
     if MOST_LINES < n {
         return not_opened(TOO_MANY, 0);
     }
-    let wrong = entries::first_wrong(set, dict, n);
+    let wrong = entries::reading::first_wrong(set, dict, n);
     if wrong != 0 {
         return not_opened(LINE_WRONG, wrong);
     }
@@ -67,6 +69,15 @@ pub fn open(set: Charset, dict: &[u8], list: &mut [u16]) -> Opened
         place: 0,
         lines: n,
     }
+}
+
+// Of the first n entries of the list, keeps those that meet the query in front, with zeros in the places after them up to n:
+// refused as the query is, then as 12, 14, 11, 13.
+pub fn narrow(set: Charset, dict: &[u8], list: &mut [u16], n: usize, query: &[u8]) -> Narrowed
+    ensures { λ r. ⌜ (r, now (list .exit)) ≡ narrowed set (now (dict .entry)) (now (list .entry)) n (now (query .entry)) ⌝ }
+{
+    let mut flags = [0u8; 65535];
+    narrowing::narrow_with(set, dict, list, n, query, &mut flags)
 }
 
 fn refusal_of(number: u8) -> Refusal

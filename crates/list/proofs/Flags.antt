@@ -11,7 +11,7 @@ use lib.Seq.{drop-cons, take-suc, set-at, getD-take, length-take-le}
 use Rattle.format.specs.Format.{choose}
 use Rattle.token.specs.Result.{Result, done}
 use Rattle.run.specs.Narrowing.{keep, listed, firstBad, filled, narrowedBy}
-use Rattle.run.proofs.Narrowed.{call-done}
+use Rattle.run.proofs.Calls.{call-done}
 use Rattle.list.specs.Flags.{isSet, flagged, flagOf, flagsOf}
 
 flagged-length : (entries flags : List ℕ) → length (flagged entries flags) ≤ length entries

@@ -6,12 +6,13 @@ use mathlib.Core.Bool.{Bool, true, false}
 use lib.ListN.{take}
 use Rattle.format.specs.Format.{All}
 use Rattle.token.specs.Result.{Result, refusal, done, onDone}
-use Rattle.run.specs.Narrowing.{Call, rising, listed, keptBy, narrowing, narrowedBy}
+use Rattle.run.specs.declared.Narrowed.{Narrowed}
+use Rattle.run.specs.Narrowing.{rising, listed, keptBy, narrowing, narrowedBy}
 use Rattle.run.specs.Run.{nextCount, answering, run}
 use Rattle.run.proofs.Keeping.{keep-same, all-map}
 use Rattle.run.proofs.Rising.{rising-within, listed-valid, listed-same, bad-same}
 
-pub runs-agree : {Q : Type 0} (call call′ : List ℕ → ℕ → Q → Call × List ℕ) → ((list : List ℕ) (n : ℕ) (q : Q) → call list n q ≡ call′ list n q)
+pub runs-agree : {Q : Type 0} (call call′ : List ℕ → ℕ → Q → Narrowed × List ℕ) → ((list : List ℕ) (n : ℕ) (q : Q) → call list n q ≡ call′ list n q)
     → (qs : List Q) (list : List ℕ) (n : ℕ) → run call qs list n ≡ run call′ qs list n
 unfolding run
 runs-agree call call′ h [] list n = refl

@@ -2,5 +2,5 @@ pub mod Keeping
 pub mod Rising
 pub mod Filled
 pub mod Runs
-pub mod Narrowed
+pub mod Calls
 pub mod Agreement

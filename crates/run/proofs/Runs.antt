@@ -8,7 +8,8 @@ use borrow.Author.Tests.{ne-eqb}
 use lib.ListN.{length, replicate}
 use lib.Seq.{drop-append-seam}
 use Rattle.token.specs.Result.{Result, refusal, done, onDone}
-use Rattle.run.specs.Narrowing.{Call, keep, answerOf, filled, listAfter, narrowing}
+use Rattle.run.specs.declared.Narrowed.{Narrowed}
+use Rattle.run.specs.Narrowing.{keep, answerOf, filled, listAfter, narrowing}
 use Rattle.run.specs.Run.{nextCount, answering, run, testsOf, accepted, passes, left, total, refusalOf, told, runFrom, RunClaims}
 use Rattle.run.proofs.Filled.{filled-whole, filled-again}
 use Rattle.run.proofs.Keeping.{keep-length, keep-keep, keep-same, keep-every, all-of}
@@ -23,11 +24,11 @@ done-numbered to (refusal number place) h = h
 done-numbered to (done a) h = tt
 
 -- What a call comes to on a list whose first entries k are good.
-abbrev pub plain : Result (ℕ → Bool) → List ℕ → List ℕ → Call × List ℕ
+abbrev pub plain : Result (ℕ → Bool) → List ℕ → List ℕ → Narrowed × List ℕ
 plain query k after = narrowing (k ++ after) (length k) (onDone (λ test. keep test k) query)
 
 -- A form of call for which the claim holds: what is kept of a good list is good, and on a good list only the query is refused.
-pub record Narrows {Q : Type 0} (call : List ℕ → ℕ → Q → Call × List ℕ) (says : Q → Result (ℕ → Bool)) (Good : List ℕ → Type 0) : Type 0 where
+pub record Narrows {Q : Type 0} (call : List ℕ → ℕ → Q → Narrowed × List ℕ) (says : Q → Result (ℕ → Bool)) (Good : List ℕ → Type 0) : Type 0 where
   pub numbered : (q : Q) → Numbered (says q)
   pub keeps : (test : ℕ → Bool) (k : List ℕ) → Good k → Good (keep test k)
   pub step : (k after : List ℕ) (q : Q) → Good k → call (k ++ after) (length k) q ≡ plain (says q) k after
@@ -37,7 +38,7 @@ next : Result (ℕ → Bool) → List ℕ → List ℕ
 next (refusal number place) k = k
 next (done test) k = keep test k
 
-answer : Result (ℕ → Bool) → List ℕ → Call
+answer : Result (ℕ → Bool) → List ℕ → Narrowed
 answer query k = answerOf (length k) (onDone (λ test. keep test k) query)
 
 next-length : (query : Result (ℕ → Bool)) (k : List ℕ) → length (next query k) ≤ length k
@@ -65,7 +66,7 @@ module _ {Q : Type 0} (says : Q → Result (ℕ → Bool)) where
   survivors [] k = k
   survivors (q ∷ qs) k = survivors qs (next (says q) k)
 
-  trace : List Q → List ℕ → List Call
+  trace : List Q → List ℕ → List Narrowed
   trace [] k = []
   trace (q ∷ qs) k = answer (says q) k ∷ trace qs (next (says q) k)
 
@@ -129,7 +130,7 @@ module _ {Q : Type 0} (says : Q → Result (ℕ → Bool)) where
       (λ e. passes-meets e qs ∙ Perm·foldr-eq Bool-set (meets e) (meets-swap e) p true ∙ sym (passes-meets e qs′))
       start)
 
-module _ {Q : Type 0} (call : List ℕ → ℕ → Q → Call × List ℕ) (says : Q → Result (ℕ → Bool)) (Good : List ℕ → Type 0) (form : Narrows call says Good) where
+module _ {Q : Type 0} (call : List ℕ → ℕ → Q → Narrowed × List ℕ) (says : Q → Result (ℕ → Bool)) (Good : List ℕ → Type 0) (form : Narrows call says Good) where
   next-good : (query : Result (ℕ → Bool)) (k : List ℕ) → Good k → Good (next query k)
   unfolding next
   next-good (refusal number place) k g = g

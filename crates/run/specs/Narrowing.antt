@@ -7,6 +7,7 @@ use lib.ListN.{length, take, drop, replicate}
 use Rattle.format.specs.Format.{choose}
 use Rattle.token.specs.Refusal.{listWrong, lineWrong}
 use Rattle.token.specs.Result.{Result, refusal, done}
+use Rattle.run.specs.declared.Narrowed.{Narrowed}
 
 -- those that pass the test, in order
 unfoldable pub keep : {A : Type 0} → (A → Bool) → List A → List A
@@ -49,15 +50,8 @@ keptBy (done test) dictionary valid readable list n =
     (choose (ltb 0 (firstBad readable (take n list))) (refusal lineWrong (firstBad readable (take n list)))
     (done (keep test (take n list)))))
 
--- what a call answers
-pub record Call : Type 0 where
-  pub number : ℕ
-  pub place : ℕ
-  pub kept : ℕ
-  pub dropped : ℕ
-
--- zeros but for number and place where it is refused
-unfoldable pub answerOf : ℕ → Result (List ℕ) → Call
+-- what a call answers: zeros but for number and place where it is refused
+unfoldable pub answerOf : ℕ → Result (List ℕ) → Narrowed
 answerOf n (refusal number place) = record { number = number; place = place; kept = 0; dropped = 0 }
 answerOf n (done kept) = record { number = 0; place = 0; kept = length kept; dropped = n - length kept }
 
@@ -70,9 +64,9 @@ unfoldable pub listAfter : List ℕ → ℕ → Result (List ℕ) → List ℕ
 listAfter list n (refusal number place) = list
 listAfter list n (done kept) = filled n kept (drop n list)
 
-abbrev pub narrowing : List ℕ → ℕ → Result (List ℕ) → Call × List ℕ
+abbrev pub narrowing : List ℕ → ℕ → Result (List ℕ) → Narrowed × List ℕ
 narrowing list n kept = (answerOf n kept, listAfter list n kept)
 
 -- a call on a list memory and a count n: what it answers, and the list memory after it
-unfoldable pub narrowedBy : Result (ℕ → Bool) → ℕ → (List ℕ → Bool) → (ℕ → Bool) → List ℕ → ℕ → Call × List ℕ
+unfoldable pub narrowedBy : Result (ℕ → Bool) → ℕ → (List ℕ → Bool) → (ℕ → Bool) → List ℕ → ℕ → Narrowed × List ℕ
 narrowedBy query dictionary valid readable list n = narrowing list n (keptBy query dictionary valid readable list n)

@@ -8,23 +8,24 @@ use lib.Dec.{eqb}
 use lib.ListN.{length}
 use Rattle.format.specs.Format.{choose}
 use Rattle.token.specs.Result.{Result, refusal, done}
-use Rattle.run.specs.Narrowing.{Call, keep, filled}
+use Rattle.run.specs.declared.Narrowed.{Narrowed}
+use Rattle.run.specs.Narrowing.{keep, filled}
 
 -- the list memory after a run, the count for the next call, and what each call answered
 pub record Ended : Type 0 where
   pub list : List ℕ
   pub count : ℕ
-  pub answers : List Call
+  pub answers : List Narrowed
 
 -- the n of the next call: the k of this one if it was accepted
-unfoldable pub nextCount : ℕ → Call → ℕ
+unfoldable pub nextCount : ℕ → Narrowed → ℕ
 nextCount n answer = choose (eqb (answer .number) 0) (answer .kept) n
 
-abbrev pub answering : Call → Ended → Ended
+abbrev pub answering : Narrowed → Ended → Ended
 answering answer r = record { list = r .list; count = r .count; answers = answer ∷ r .answers }
 
 -- the calls with the queries in order, the first on this list memory and count
-unfoldable pub run : {Q : Type 0} → (List ℕ → ℕ → Q → Call × List ℕ) → List Q → List ℕ → ℕ → Ended
+unfoldable pub run : {Q : Type 0} → (List ℕ → ℕ → Q → Narrowed × List ℕ) → List Q → List ℕ → ℕ → Ended
 run call [] list n = record { list = list; count = n; answers = [] }
 run call (q ∷ qs) list n =
     answering (call list n q .0) (run call qs (call list n q .1) (nextCount n (call list n q .0)))
@@ -49,8 +50,8 @@ unfoldable pub left : {Q : Type 0} → (Q → Result (ℕ → Bool)) → List �
 left says start qs = keep (passes (accepted says qs)) start
 
 -- the dropped counts, added up
-unfoldable pub total : List Call → ℕ
-total answers = foldr (λ (answer : Call) (n : ℕ). answer .dropped + n) 0 answers
+unfoldable pub total : List Narrowed → ℕ
+total answers = foldr (λ (answer : Narrowed) (n : ℕ). answer .dropped + n) 0 answers
 
 -- the number and place of a refusal, zeros where there is none
 unfoldable pub refusalOf : Result (ℕ → Bool) → ℕ × ℕ
@@ -58,17 +59,17 @@ refusalOf (refusal number place) = (number, place)
 refusalOf (done test) = (0, 0)
 
 -- each query with the number and place that its call answered
-unfoldable pub told : {Q : Type 0} → List Q → List Call → List (Q × (ℕ × ℕ))
+unfoldable pub told : {Q : Type 0} → List Q → List Narrowed → List (Q × (ℕ × ℕ))
 told [] answers = []
 told (q ∷ qs) [] = []
 told (q ∷ qs) (answer ∷ answers) = (q, (answer .number, answer .place)) ∷ told qs answers
 
 -- A run from a list memory that holds the entries start and then rest, with the count of start.
-abbrev pub runFrom : {Q : Type 0} → (List ℕ → ℕ → Q → Call × List ℕ) → List ℕ → List ℕ → List Q → Ended
+abbrev pub runFrom : {Q : Type 0} → (List ℕ → ℕ → Q → Narrowed × List ℕ) → List ℕ → List ℕ → List Q → Ended
 runFrom call start rest qs = run call qs (start ++ rest) (length start)
 
 -- What holds of every run from there; says is the refusal of a query, or its test of an entry.
-pub record RunClaims {Q : Type 0} (call : List ℕ → ℕ → Q → Call × List ℕ) (says : Q → Result (ℕ → Bool)) (start rest : List ℕ) : Type 0 where
+pub record RunClaims {Q : Type 0} (call : List ℕ → ℕ → Q → Narrowed × List ℕ) (says : Q → Result (ℕ → Bool)) (start rest : List ℕ) : Type 0 where
   -- the list memory at the end: the entries left, zeros to the count at the start, and beyond that what it held before
   pub ending : (qs : List Q) → runFrom call start rest qs .list ≡ filled (length start) (left says start qs) rest
   -- the count at the end is that of the entries left

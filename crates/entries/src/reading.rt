@@ -1,16 +1,16 @@
-// The entries of one dictionary: reading their lines.
+// Reading the lines of a dictionary, each where it lies.
 ghost use mathlib.Core.Path.{_≡_};
 ghost use mathlib.Core.List.{_++_};
 ghost use Prim.Native.Nat.{_≤_};
 ghost use lib.ListN.{length, drop};
 ghost use Rattle.lines.specs.Lines.{lines};
 ghost use Rattle.run.specs.Narrowing.{entriesFrom};
-ghost use Rattle.dictionary.specs.Entries.{firstWrong};
+ghost use Rattle.entries.specs.Entries.{firstWrong};
 use charset::Charset;
 use lines::walk::line_end;
 use token::refusal::DONE;
 
-// The number of the first of n lines that the sign reader refuses, or 0. Each is read where it lies.
+// The number of the first of n lines that the sign reader refuses, or 0.
 pub fn first_wrong(set: Charset, dict: &[u8], n: usize) -> usize
     requires { ⌜ n ≤ length (lines (now dict)) ⌝ }
     ensures { λ r. ⌜ r ≡ firstWrong set (now (dict .entry)) (entriesFrom 1 n) ⌝ }

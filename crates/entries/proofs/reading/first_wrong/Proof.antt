@@ -5,10 +5,10 @@ use borrow.Author.Needs.{needs}
 use Rattle.lines.specs.Lines.{lineStart}
 use Rattle.lines.proofs.Starts.{Line, start-first, start-within, line-at}
 use Rattle.run.specs.Narrowing.{entriesFrom}
-use Rattle.dictionary.specs.Entries.{firstWrong}
-use Rattle.dictionary.proofs.Lines.{is-sign, no-sign, wrong-start, wrong-here, wrong-later, wrong-none}
-use Rattle.dictionary.proofs.entries.first_wrong.Statement.{statement}
-use Rattle.dictionary.proofs.entries.first_wrong.Tie as tie
+use Rattle.entries.specs.Entries.{firstWrong}
+use Rattle.entries.proofs.Lines.{is-sign, no-sign, wrong-start, wrong-here, wrong-later, wrong-none}
+use Rattle.entries.proofs.reading.first_wrong.Statement.{statement}
+use Rattle.entries.proofs.reading.first_wrong.Tie as tie
 
 abbrev Inv-loop : tie.InvT-loop
 Inv-loop set dict n passed₀ start₀ passed start =

@@ -10,14 +10,15 @@ use lib.Seq.{take-append-seam}
 use Rattle.format.specs.Format.{All}
 use Rattle.token.specs.Result.{Result, refusal, done}
 use Rattle.token.specs.Refusal.{listWrong, lineWrong}
-use Rattle.run.specs.Narrowing.{Call, keep, rising, listed, firstBad, keptBy, answerOf, filled, listAfter, narrowedBy}
+use Rattle.run.specs.declared.Narrowed.{Narrowed}
+use Rattle.run.specs.Narrowing.{keep, rising, listed, firstBad, keptBy, answerOf, filled, listAfter, narrowedBy}
 use Rattle.run.specs.Run.{accepted, passes, left, RunClaims}
 use Rattle.run.proofs.Keeping.{keep-all}
 use Rattle.run.proofs.Rising.{listed-is, rising-keep, none-bad, all-readable}
 use Rattle.run.proofs.Runs.{Numbered, Narrows, plain, claims}
 
 -- A call as its caller sees it: the answer and the list memory after it.
-abbrev pub refusedWith : ℕ → ℕ → List ℕ → Call × List ℕ
+abbrev pub refusedWith : ℕ → ℕ → List ℕ → Narrowed × List ℕ
 refusedWith number place list = (record { number = number; place = place; kept = 0; dropped = 0 }, list)
 
 module _ (valid : List ℕ → Bool) (readable : ℕ → Bool) (list : List ℕ) (n : ℕ) where

@@ -15,7 +15,7 @@ use Rattle.reader.proofs.Limits.{Known, not-read, was-read, known}
 use Rattle.lines.specs.Lines.{lineOf}
 use Rattle.lines.proofs.Starts.{Line}
 use Rattle.run.specs.Narrowing.{entriesFrom, firstBad}
-use Rattle.dictionary.specs.Entries.{isDone, firstWrong}
+use Rattle.entries.specs.Entries.{isDone, firstWrong}
 
 -- what the reader's number says of the line that it read
 module _ (set : Charset) (d : List ℕ) (k a e : ℕ) (l : Line d k a e) (h : Head) (prefix codes xs ys : List ℕ)

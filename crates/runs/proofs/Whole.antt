@@ -1,0 +1,68 @@
+-- From what opening and the run answer to the claim: one law for each return.
+use Prim.Native.Nat.{ℕ, _-_, _≤_}
+use mathlib.Core.Path.{_≡_, refl, sym, ap, _∙_}
+use mathlib.Core.List.{List}
+use mathlib.Core.Bool.{Bool, true, false, not}
+use native.Mathlib.Omega.{arith}
+use borrow.Author.Tests.{leb-true, not-true, not-false}
+use lib.ListN.{length, drop}
+use Rattle.charset.specs.declared.Charset.{Charset}
+use Rattle.token.specs.Result.{Result, refusal, done, inRoom, leftAs, output}
+use Rattle.lines.specs.Lines.{lines, ended}
+use Rattle.run.specs.declared.Narrowed.{Narrowed}
+use Rattle.run.specs.Narrowing.{filled}
+use Rattle.run.specs.Run.{Ended, run, total}
+use Rattle.entries.specs.Entries.{entriesOf}
+use Rattle.dictionary.specs.declared.Opened.{Opened}
+use Rattle.dictionary.specs.Opening.{opening, openedAs, opened}
+use Rattle.dictionary.specs.Narrowing.{narrowed}
+use Rattle.dictionary.specs.Demand3.{Opens, runOn, meeting}
+use Rattle.dictionary.proofs.Demand3.{Start, start-of, opens-done, demand3}
+use Rattle.runs.specs.Runs.{endedAs, notRun, leaving, ranAs, ranOn}
+
+abbrev refusedAs : ℕ → ℕ → Narrowed
+refusedAs number place = record { number = number; place = place; kept = 0; dropped = 0 }
+
+module _ (set : Charset) (dict list queries : List ℕ) (b : Bool) (t : b ≡ ended queries) where
+  pub unended : not b ≡ true → (r : Narrowed) → r ≡ refusedAs 2 (length queries) → (r, list) ≡ ranOn set dict list queries
+  unfolding ranOn
+  unended k r e = let f : ended queries ≡ false = sym t ∙ not-true b k in rw (e, f)
+
+  module _ (k : not b ≡ false) (o : Opened) (after : List ℕ) (e : o ≡ opened list (opening set dict)) (m : after ≡ output list (opening set dict)) where
+    whole : ended queries ≡ true
+    whole = sym t ∙ not-false b k
+
+    pub not-opened : (o .number ≡ 0 → ⊥) → (r : Narrowed) → r ≡ refusedAs (o .number) (o .place) → (r, after) ≡ ranOn set dict list queries
+    unfolding ranOn opened output
+    not-opened z r f = rw whole (go (inRoom (length list) (opening set dict)) e m)
+      where
+        go : (x : Result (List ℕ)) → o ≡ openedAs x → after ≡ leftAs list x → (r, after) ≡ ranAs set dict list (lines queries) x
+        go (refusal number place) p q = rw (f, p, q)
+        go (done entries) p q = absurd (z (ap (λ o. o .number) p))
+
+    module _ (z : o .number ≡ 0) where
+      opens : Opens set dict list
+      opens = ap (λ o. o .number) (sym e) ∙ z
+
+      start : Start set dict list
+      start = start-of set dict list opens
+
+      ran : Ended
+      ran = run (narrowed set dict) (lines queries) after (o .lines)
+
+      same : ran ≡ runOn set dict list (lines queries)
+      unfolding ran
+      same = rw (m, e)
+
+      sum : total (ran .answers) ≡ length (lines dict) - length (meeting set dict (lines queries))
+      sum = ap (λ r. total (r .answers)) same ∙ omega (arith, demand3 .adding set dict list opens (lines queries))
+
+      pub within : total (run (narrowed set dict) (lines queries) after (o .lines) .answers) ≤ 65535
+      unfolding ran
+      within = omega (arith, sum, leb-true (length (lines dict)) 65535 (start .few))
+
+      pub ended-so : (r : Narrowed) (last : List ℕ) → (r, last) ≡ endedAs (run (narrowed set dict) (lines queries) after (o .lines)) → (r, last) ≡ ranOn set dict list queries
+      unfolding ranOn endedAs ran
+      ended-so r last f =
+          rw (whole, opens-done set dict list start)
+          (f ∙ rw (ap (λ r. r .count) same, demand3 .counting set dict list opens (lines queries), sum, ap (λ r. r .list) same, demand3 .ending set dict list opens (lines queries)))

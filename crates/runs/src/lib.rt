@@ -1,0 +1,82 @@
+// A whole run of narrowing calls as one function, so that demand 3 can be read on code that runs.
+ghost use mathlib.Core.Path.{_≡_};
+ghost use Prim.Native.Nat.{_≤_};
+ghost use Rattle.lines.specs.Lines.{lines};
+ghost use Rattle.run.specs.Run.{nextCount, run, total};
+ghost use Rattle.dictionary.specs.Narrowing.{narrowed};
+ghost use Rattle.runs.specs.Runs.{endedAs, ranOn};
+use charset::Charset;
+use dictionary::narrow;
+use lines::walk::count;
+use lines::walk::is_ended;
+use lines::walk::line_end;
+use run::Narrowed;
+use token::refusal::DONE;
+use token::refusal::TEXT_SHORT;
+
+fn not_run(number: u8, place: usize) -> Narrowed
+    ensures { λ r. ⌜ r ≡ record { number = number; place = place; kept = 0; dropped = 0 } ⌝ }
+{
+    Narrowed {
+        number: number,
+        place: place,
+        kept: 0,
+        dropped: 0,
+    }
+}
+
+// The n of the next call: the k of this one if it was accepted.
+fn next_count(n: usize, answer: Narrowed) -> usize
+    ensures { λ r. ⌜ r ≡ nextCount n answer ⌝ }
+{
+    let number = answer.number;
+    if number == DONE {
+        return answer.kept;
+    }
+    n
+}
+
+// Narrows by each line of queries in order.
+fn narrow_each(set: Charset, dict: &[u8], list: &mut [u16], n: usize, queries: &[u8]) -> Narrowed
+    requires { ⌜ total (run (narrowed set (now dict)) (lines (now queries)) (now list) n .answers) ≤ 65535 ⌝ }
+    ensures { λ r. ⌜ (r, now (list .exit)) ≡ endedAs (run (narrowed set (now (dict .entry))) (lines (now (queries .entry))) (now (list .entry)) n) ⌝ }
+{
+    let calls = count(queries);
+    let mut kept = n;
+    let mut dropped: usize = 0;
+    let mut start: usize = 0;
+    let mut made: usize = 0;
+    while made < calls {
+        let end = line_end(queries, start);
+        let answer = narrow(set, dict, list, kept, &queries[start..end]);
+        let lost = answer.dropped;
+        dropped += lost;
+        kept = next_count(kept, answer);
+        start = end + 1;
+        made += 1;
+    }
+    Narrowed {
+        number: DONE,
+        place: 0,
+        kept: kept,
+        dropped: dropped,
+    }
+}
+
+// Opens a dictionary and narrows by each line of queries in order. Answers opening's refusal, or how many entries are left and
+// how many were dropped in all. Queries that do not end in byte 10 are refused first, as 2 at their length: no query is cut short.
+pub fn run_queries(set: Charset, dict: &[u8], list: &mut [u16], queries: &[u8]) -> Narrowed
+    ensures { λ r. ⌜ (r, now (list .exit)) ≡ ranOn set (now (dict .entry)) (now (list .entry)) (now (queries .entry)) ⌝ }
+{
+    if !is_ended(queries) {
+        return not_run(TEXT_SHORT, queries.len());
+    }
+    let opened = dictionary::open(set, dict, list);
+    let number = opened.number;
+    let place = opened.place;
+    let lines = opened.lines;
+    if number != DONE {
+        return not_run(number, place);
+    }
+    narrow_each(set, dict, list, lines, queries)
+}
