@@ -5,4 +5,3 @@ pub mod Rightness
 pub mod Numbers
 pub mod Bridge
 pub mod Holding
-pub mod VerdictRows

@@ -7,4 +7,3 @@ pub mod Unmoved
 pub mod Along
 pub mod Recentred
 pub mod Laws
-pub mod Rows

@@ -1,4 +1,3 @@
 pub mod Moves
 pub mod MovingLaws
-pub mod CentringRows
 pub mod Inner

@@ -1,0 +1,63 @@
+-- The starred examples, by computation. The reader, the queries and the verdicts run on the texts as they stand.
+use Prim.Native.Nat.{ℕ}
+use mathlib.Core.Path.{_≡_, refl}
+use mathlib.Core.List.{List}
+use borrow.Author.Tests.{eq-eqb}
+use lib.ListN.{length}
+use Rattle.charset.specs.declared.Charset.the-variants.{Fsw}
+use Rattle.charset.specs.Bytes.{digitOf, markerOf}
+use Rattle.token.specs.Result.{done}
+use Rattle.token.specs.Codes.{codeRead, codeText}
+use Rattle.reader.specs.Signs.{signOf}
+use Rattle.query.specs.Reading.{queryOf}
+use Rattle.matching.specs.Meets.{satisfies, prefixHolds, serves, judged, witnessesOf, verdictOf}
+use Rattle.verdict.specs.Verdict.{verdictOn, verdictIn}
+use Rattle.bounds.specs.Boxes.{grownAll, keep, groupsOf}
+use Rattle.bounds.specs.Sizes.{firstUnsized, measured}
+use Rattle.moving.specs.Moves.{allOf, movedSign, centredSign, centredText}
+use Rattle.starred.specs.Starred.{ascii, SizeOf, StarredRows, OtherRows}
+
+module _ (sizes : List ℕ) (n : length sizes ≡ 125184) where
+  centred-whole : SizeOf sizes 1 15 30 → SizeOf sizes 25057 10 10
+      → centredText Fsw (ascii "M520x515S10000490x490S20500500x500") sizes ≡ done (ascii "M510x515S10000490x485S20500500x495")
+  unfolding centredText signOf digitOf markerOf centredSign measured firstUnsized groupsOf keep grownAll movedSign allOf
+  centred-whole a b = rw (eq-eqb (length sizes) 125184 n, a .width, a .height, b .width, b .height)
+
+  centred-head : SizeOf sizes 49057 36 36 → SizeOf sizes 59617 60 20
+      → centredText Fsw (ascii "M540x540S2ff00482x483S36d00470x520") sizes ≡ done (ascii "M530x539S2ff00482x482S36d00470x519")
+  unfolding centredText signOf digitOf markerOf centredSign measured firstUnsized groupsOf keep grownAll movedSign allOf
+  centred-head a b = rw (eq-eqb (length sizes) 125184 n, a .width, a .height, b .width, b .height)
+
+pub starred : StarredRows
+unfolding codeRead codeText digitOf markerOf signOf queryOf verdictIn verdictOn verdictOf prefixHolds satisfies judged witnessesOf serves
+starred = record {
+  S10019 = refl;
+  S2ea04 = refl;
+  S38b5f = refl;
+  U40001 = refl;
+  emptySign = refl;
+  M749x750 = refl;
+  M500x500S37f00500x500 = refl;
+  QAS100uuT = refl;
+  QS100uu490x505 = refl;
+  QS100uu490x506 = refl;
+  QR204t100 = refl;
+  centred = centred-whole;
+  centredByHead = centred-head;
+}
+
+pub others : OtherRows
+unfolding codeRead digitOf markerOf signOf queryOf verdictIn verdictOn verdictOf prefixHolds satisfies judged witnessesOf serves
+others = record {
+  S38c00 = refl;
+  U1D803 = refl;
+  M250x25 = refl;
+  QAS20500T = refl;
+  QS100uu490x505V19 = refl;
+  QS100uuS100uu = refl;
+  QAT = refl;
+  QS20500S10000 = refl;
+  QTR101t205 = refl;
+  QT = refl;
+  QAR100t38bT = refl;
+}

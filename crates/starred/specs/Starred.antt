@@ -1,0 +1,63 @@
+-- The worked examples that document 01 marks with a star, as one statement about the definitions that the contracts cite.
+use Prim.Native.Nat.{ℕ}
+use Prim.Native.Char.{code}
+use Prim.Native.String.{String, [] as none, _∷_ as _then_}
+use mathlib.Core.Path.{_≡_}
+use mathlib.Core.List.{List, [], _∷_, _++_}
+use lib.ListN.{length}
+use Rattle.charset.specs.declared.Charset.the-variants.{Fsw, Swu}
+use Rattle.charset.specs.Bytes.{utf8}
+use Rattle.grammar.specs.Sign.{signText}
+use Rattle.token.specs.Result.{refusal, done}
+use Rattle.token.specs.Codes.{codeRead, codeText}
+use Rattle.reader.specs.Signs.{signOf}
+use Rattle.query.specs.Reading.{queryOf}
+use Rattle.matching.specs.Meets.{unmet, met, answered}
+use Rattle.verdict.specs.Verdict.{verdictIn}
+use Rattle.bounds.specs.Boxes.{widthOf, heightOf}
+use Rattle.moving.specs.Moves.{centredText}
+
+-- the bytes of an ASCII text
+abbrev pub ascii : String → List ℕ
+ascii none = []
+ascii (c then s) = code c ∷ ascii s
+
+abbrev pub K : List ℕ
+K = ascii "AS10000S20500M510x515S10000490x485S20500500x495"
+
+-- the size list gives this width and height to a code
+pub record SizeOf (sizes : List ℕ) (code w h : ℕ) : Type 0 where
+  pub width : widthOf sizes code ≡ w
+  pub height : heightOf sizes code ≡ h
+
+-- S10000 is code 1, S20500 is 25057, S2ff00 is 49057 and S36d00 is 59617
+pub record StarredRows : Type 0 where
+  pub S10019 : codeRead Fsw (ascii "S10019") ≡ record { number = 0; place = 0; code = 26 }
+  pub S2ea04 : codeRead Fsw (ascii "S2ea04") ≡ record { number = 0; place = 0; code = 47045 }
+  pub S38b5f : codeRead Fsw (ascii "S38b5f") ≡ record { number = 0; place = 0; code = 62592 }
+  pub U40001 : codeText Swu 1 ≡ done (0xf1 ∷ 0x80 ∷ 0x80 ∷ 0x81 ∷ [])
+  pub emptySign : signOf Fsw [] ≡ refusal 2 0
+  pub M749x750 : signOf Fsw (ascii "M749x750") ≡ refusal 1 6
+  pub M500x500S37f00500x500 : signOf Fsw (ascii "M500x500S37f00500x500") ≡ refusal 1 11
+  pub QAS100uuT : verdictIn Fsw (ascii "QAS100uuT") K ≡ answered (met [])
+  pub QS100uu490x505 : verdictIn Fsw (ascii "QS100uu490x505") K ≡ answered (met (1 ∷ []))
+  pub QS100uu490x506 : verdictIn Fsw (ascii "QS100uu490x506") K ≡ answered (unmet 1)
+  pub QR204t100 : queryOf (ascii "QR204t100") ≡ refusal 5 1
+  pub centred : (sizes : List ℕ) → length sizes ≡ 125184 → SizeOf sizes 1 15 30 → SizeOf sizes 25057 10 10
+      → centredText Fsw (ascii "M520x515S10000490x490S20500500x500") sizes ≡ done (ascii "M510x515S10000490x485S20500500x495")
+  pub centredByHead : (sizes : List ℕ) → length sizes ≡ 125184 → SizeOf sizes 49057 36 36 → SizeOf sizes 59617 60 20
+      → centredText Fsw (ascii "M540x540S2ff00482x483S36d00470x520") sizes ≡ done (ascii "M530x539S2ff00482x482S36d00470x519")
+
+-- the other examples of the sheet whose answers are stated, and four of the null symbol, of T and of ranges
+pub record OtherRows : Type 0 where
+  pub S38c00 : codeRead Fsw (ascii "S38c00") ≡ record { number = 1; place = 3; code = 0 }
+  pub U1D803 : signText Swu (record { prefix = []; marker = 3; x = 250; y = 250; symbols = [] }) ≡ 0xf0 ∷ 0x9d ∷ 0xa0 ∷ 0x83 ∷ (utf8 0x1d80c ++ utf8 0x1d80c)
+  pub M250x25 : signOf Fsw (ascii "M250x25") ≡ refusal 2 7
+  pub QAS20500T : verdictIn Fsw (ascii "QAS20500T") K ≡ answered (unmet 0)
+  pub QS100uu490x505V19 : verdictIn Fsw (ascii "QS100uu490x505V19") K ≡ answered (unmet 1)
+  pub QS100uuS100uu : verdictIn Fsw (ascii "QS100uuS100uu") K ≡ answered (met (1 ∷ 1 ∷ []))
+  pub QAT : queryOf (ascii "QAT") ≡ refusal 1 2
+  pub QS20500S10000 : verdictIn Fsw (ascii "QS20500S10000") K ≡ answered (met (2 ∷ 1 ∷ []))
+  pub QTR101t205 : verdictIn Fsw (ascii "QTR101t205") K ≡ answered (met (2 ∷ []))
+  pub QT : verdictIn Fsw (ascii "QT") (ascii "M500x500") ≡ answered (unmet 0)
+  pub QAR100t38bT : verdictIn Fsw (ascii "QAR100t38bT") (ascii "AS00000M500x500") ≡ answered (unmet 0)
