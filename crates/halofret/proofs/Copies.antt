@@ -1,0 +1,37 @@
+-- Numbers copied into an array one after the other, until they fill it.
+use Prim.Native.Nat.{ℕ, _+_, _≤_, _<_}
+use mathlib.Core.List.{List, [], _++_}
+use mathlib.Core.Path.{_≡_, refl, sym, ap, _∙_}
+use lib.ListN.{length, set, getD, take}
+use lib.Seq.{paste, paste-suc, length-paste, take-paste, take-all}
+use native.Mathlib.Numerals.{add-one}
+use native.Mathlib.Omega.{arith}
+
+-- i numbers are copied
+module _ (d : List ℕ) (at : ℕ) (s : List ℕ) (room : at + length s ≤ length d) where
+  pub copy-on : (i : ℕ) (e : List ℕ) → e ≡ paste d at s i → i < length s → set e (at + i) (getD s i 0) ≡ paste d at s (i + 1)
+  copy-on i e p h = ap (λ l. set l (at + i) (getD s i 0)) p ∙ paste-suc d at s i 0 (omega arith) h ∙ ap (paste d at s) (sym (add-one i))
+
+  pub copy-length : (i : ℕ) (e : List ℕ) → e ≡ paste d at s i → i ≤ length s → length e ≡ length d
+  copy-length i e p h = ap length p ∙ length-paste d at s i (omega arith) h
+
+-- the first n numbers of an array
+pub record Filled (size n : ℕ) (array front : List ℕ) : Type 0 where
+  pub whole : length array ≡ size
+  pub is : take n array ≡ front
+
+pub filled-none : (size : ℕ) (array : List ℕ) → length array ≡ size → Filled size 0 array []
+filled-none size array h = record { whole = h; is = refl }
+
+pub filled-more : (size at n : ℕ) (d e front s : List ℕ) → Filled size at d front → e ≡ paste d at s (length s) → n ≡ at + length s → n ≤ size
+    → Filled size n e (front ++ s)
+filled-more size at n d e front s f p q h =
+    let w = f .whole in
+    record {
+      whole = copy-length d at s (omega arith) (length s) e p (omega arith) ∙ w;
+      is = ap (λ k. take k e) q ∙ ap (take (at + length s)) p ∙ take-paste d at s (length s) (omega arith) (omega arith)
+          ∙ (λ i. f .is i ++ take-all (length s) s (omega arith) i);
+    }
+
+pub filled-all : (size : ℕ) (array front : List ℕ) → Filled size size array front → array ≡ front
+filled-all size array front f = let w = f .whole in sym (take-all size array (omega arith)) ∙ f .is

@@ -1,0 +1,37 @@
+-- Where a fetched line lies.
+use Prim.Native.Nat.{ℕ, _-_, _≤_, _<_}
+use mathlib.Core.Path.{_≡_, sym, ap, _∙_}
+use mathlib.Core.List.{List, [], _∷_}
+use lib.ListN.{length, drop, length-drop}
+use lib.Seq.{length-take-le}
+use native.Mathlib.Omega.{arith}
+use borrow.Author.Tests.{le-leb, lt-leb}
+use Rattle.token.specs.Result.{Result, refusal, done}
+use Rattle.lines.specs.Lines.{lines, lineOf, lineStart}
+use Rattle.lines.proofs.Starts.{Line}
+use Rattle.dictionary.specs.declared.Refusal.{Refusal}
+use Rattle.dictionary.specs.Fetching.{Entry, fetching, refusalAs}
+use Rattle.dictionary.proofs.Fetches.{Accepted}
+use Rattle.halofret.specs.Dictionaries.{lineNumbers, fetchedNumbers}
+
+pub line-told : (book : ℕ) (d : List ℕ) (k a e : ℕ) → a ≡ lineStart d k → Line d k a e → (0 ∷ book ∷ a ∷ (e - a) ∷ []) ≡ lineNumbers book d k
+line-told book d k a e s l =
+    let high = l .high in
+    let size : e - a ≡ length (lineOf d k) =
+    sym (length-take-le (e - a) (drop a d) (omega (arith, length-drop a d))) ∙ ap length (l .part) in
+    λ i. 0 ∷ book ∷ s i ∷ size i ∷ []
+
+module _ (d s : List ℕ) (k : ℕ) where
+  pub fetch-refused : (r : Refusal) → r ≡ refusalAs (fetching d s k) → (r .number ≡ 0 → ⊥) → (r .number ∷ 0 ∷ 0 ∷ 0 ∷ []) ≡ fetchedNumbers d s (fetching d s k)
+  fetch-refused r e z = go (fetching d s k) e
+    where
+      go : (f : Result Entry) → r ≡ refusalAs f → (r .number ∷ 0 ∷ 0 ∷ 0 ∷ []) ≡ fetchedNumbers d s f
+      go (refusal number place) e = ap (λ r. r .number ∷ 0 ∷ 0 ∷ 0 ∷ []) e
+      go (done entry) e = absurd (z (ap (λ r. r .number) e))
+
+  module _ (a : Accepted d s k) (n : ℕ) (e : n ≡ length (lines d)) where
+    pub fetch-first : k ≤ n → lineNumbers 0 d k ≡ fetchedNumbers d s (fetching d s k)
+    fetch-first h = rw (a .is, ← e, le-leb k n h)
+
+    pub fetch-second : n < k → lineNumbers 1 s (k - n) ≡ fetchedNumbers d s (fetching d s k)
+    fetch-second h = rw (a .is, ← e, lt-leb k n h)

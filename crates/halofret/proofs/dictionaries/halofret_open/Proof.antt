@@ -1,0 +1,23 @@
+use mathlib.Core.Path.{ap}
+use Rattle.halofret.specs.Dictionaries.{openedNumbers}
+use borrow.Author.Needs.{needs}
+use Rattle.halofret.proofs.dictionaries.halofret_open.Statement.{statement}
+use Rattle.halofret.proofs.dictionaries.halofret_open.Tie as tie
+
+set-of-requires : tie.Need-set-of-requires
+set-of-requires c κs = search needs
+
+open-requires : tie.Need-open-requires
+open-requires c κs = search needs
+
+cast-t9 : tie.Need-cast-t9
+cast-t9 c = search needs
+
+same-length : tie.Need-same-length
+same-length c = search needs
+
+returns : tie.Need-returns
+returns c = rw (← c .before .before .before .before .before .before .set-of .ensures) (ap openedNumbers (c .before .before .before .before .«open» .ensures .0), c .before .before .before .before .«open» .ensures .1)
+
+pub halofret-open-spec : {M : Type 1} → statement M
+halofret-open-spec = tie.close (tie.spec set-of-requires open-requires cast-t9 same-length returns)

@@ -1,0 +1,25 @@
+use mathlib.Core.Path.{ap, _∙_}
+use Rattle.halofret.specs.Layouts.{writtenNumbers}
+use borrow.Author.Needs.{needs}
+use Rattle.halofret.proofs.signs.halofret_transcribe.Statement.{statement}
+use Rattle.halofret.proofs.signs.halofret_transcribe.Tie as tie
+
+set-of-requires : tie.Need-set-of-requires
+set-of-requires c κs = search needs
+
+transcribe-requires : tie.Need-transcribe-requires
+transcribe-requires c κs = search needs
+
+written-numbers-requires : tie.Need-written-numbers-requires
+written-numbers-requires c κs = search needs
+
+same-length : tie.Need-same-length
+same-length c = search needs
+
+returns : tie.Need-returns
+returns c = rw (← c .before .before .before .before .before .set-of .ensures) (c .written-numbers .ensures ∙ ap writtenNumbers (c .before .before .before .transcribe .ensures .0), c .before .before .before .transcribe .ensures .1)
+
+pub halofret-transcribe-spec : {M : Type 1} → statement M
+halofret-transcribe-spec =
+    tie.close
+    (tie.spec set-of-requires transcribe-requires written-numbers-requires same-length returns)

@@ -1,0 +1,25 @@
+-- How the answers of dictionaries lie in lent numbers.
+use Prim.Native.Nat.{ℕ}
+use mathlib.Core.List.{List, [], _∷_}
+use lib.ListN.{length}
+use Rattle.token.specs.Result.{Result, refusal, done}
+use Rattle.lines.specs.Lines.{lineOf, lineStart}
+use Rattle.run.specs.declared.Narrowed.{Narrowed}
+use Rattle.dictionary.specs.declared.Opened.{Opened}
+use Rattle.dictionary.specs.Fetching.{Entry, inFirst, inSecond}
+
+abbrev pub openedNumbers : Opened → List ℕ
+openedNumbers o = o .number ∷ o .place ∷ o .lines ∷ []
+
+abbrev pub narrowedNumbers : Narrowed → List ℕ
+narrowedNumbers r = r .number ∷ r .place ∷ r .kept ∷ r .dropped ∷ []
+
+-- line k of a book: the book, where the line starts, and its length
+abbrev pub lineNumbers : ℕ → List ℕ → ℕ → List ℕ
+lineNumbers book d k = 0 ∷ book ∷ lineStart d k ∷ length (lineOf d k) ∷ []
+
+-- Fetching has no place: each of its refusals has place 0.
+abbrev pub fetchedNumbers : List ℕ → List ℕ → Result Entry → List ℕ
+fetchedNumbers first second (refusal number place) = number ∷ 0 ∷ 0 ∷ 0 ∷ []
+fetchedNumbers first second (done (inFirst k)) = lineNumbers 0 first k
+fetchedNumbers first second (done (inSecond k)) = lineNumbers 1 second k

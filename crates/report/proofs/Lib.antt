@@ -1,0 +1,3 @@
+pub mod Splitting
+pub mod Searching
+pub mod Laws

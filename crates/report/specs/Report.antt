@@ -1,0 +1,70 @@
+-- The search program's whole output, from its whole input (document 01, "The search program").
+use Prim.Native.Nat.{ℕ, suc, _≤_}
+use mathlib.Core.Path.{_≡_}
+use mathlib.Core.List.{List, [], _∷_, _++_}
+use mathlib.Core.Bool.{Bool, _&&_}
+use lib.Dec.{eqb, leb}
+use lib.ListN.{length, take, drop}
+use Rattle.format.specs.Format.{choose}
+use Rattle.charset.specs.declared.Charset.the-variants.{Fsw}
+use Rattle.token.specs.Refusal.{tooMany}
+use Rattle.token.specs.Result.{Result, refusal, done}
+use Rattle.lines.specs.Lines.{lines, firstLine}
+use Rattle.run.specs.declared.Narrowed.{Narrowed}
+use Rattle.dictionary.specs.Opening.{opening}
+use Rattle.dictionary.specs.Narrowing.{narrowed}
+use Rattle.text.specs.Text.{keyLine, entryLines}
+
+-- the input's query: the bytes before the first byte 10, or all if there is none
+abbrev pub queryIn : List ℕ → List ℕ
+queryIn input = firstLine input
+
+-- and its dictionary: all after that byte 10
+abbrev pub dictionaryIn : List ℕ → List ℕ
+dictionaryIn input = drop (suc (length (firstLine input))) input
+
+-- a query of at most 1,024 bytes, and a dictionary of at most 49,152 bytes and 1,024 lines
+unfoldable pub within : List ℕ → List ℕ → Bool
+within query dict = leb (length query) 1024 && (leb (length dict) 49152 && leb (length (lines dict)) 1024)
+
+-- `answer=`, `place=`, `entries=`, `kept=`
+abbrev pub answerKey : List ℕ
+answerKey = 97 ∷ 110 ∷ 115 ∷ 119 ∷ 101 ∷ 114 ∷ 61 ∷ []
+
+abbrev pub placeKey : List ℕ
+placeKey = 112 ∷ 108 ∷ 97 ∷ 99 ∷ 101 ∷ 61 ∷ []
+
+abbrev pub entriesKey : List ℕ
+entriesKey = 101 ∷ 110 ∷ 116 ∷ 114 ∷ 105 ∷ 101 ∷ 115 ∷ 61 ∷ []
+
+abbrev pub keptKey : List ℕ
+keptKey = 107 ∷ 101 ∷ 112 ∷ 116 ∷ 61 ∷ []
+
+unfoldable pub refusalText : ℕ → ℕ → List ℕ
+refusalText number place = keyLine answerKey number ++ keyLine placeKey place
+
+-- the line count, and the entries that were kept
+unfoldable pub foundText : ℕ → List ℕ → List ℕ
+foundText n kept = keyLine answerKey 0 ++ keyLine entriesKey n ++ keyLine keptKey (length kept) ++ entryLines kept
+
+-- what narrowing the n entries answered, and the list after it, of which it kept the first
+unfoldable pub narrowedText : ℕ → Narrowed × List ℕ → List ℕ
+narrowedText n (answer, list) =
+    choose (eqb (answer .number) 0) (foundText n (take (answer .kept) list)) (refusalText (answer .number) (answer .place))
+
+-- what opening came to: its refusal, or the list to narrow
+unfoldable pub openedText : List ℕ → List ℕ → Result (List ℕ) → List ℕ
+openedText query dict (refusal number place) = refusalText number place
+openedText query dict (done list) = narrowedText (length list) (narrowed Fsw dict list (length list) query)
+
+-- 14 before all else, then opening's refusals, then narrowing's
+unfoldable pub searchText : List ℕ → List ℕ → List ℕ
+searchText query dict = choose (within query dict) (openedText query dict (opening Fsw dict)) (refusalText tooMany 0)
+
+-- the whole output
+unfoldable pub outputOf : List ℕ → List ℕ
+outputOf input = searchText (queryIn input) (dictionaryIn input)
+
+-- n counts bytes at the start of a memory. The second fact follows from the first; callers that lend the part ask for both.
+abbrev pub Part : ℕ → List ℕ → Type 0
+Part n memory = (n ≤ length memory) × (n ≡ length (take n memory))

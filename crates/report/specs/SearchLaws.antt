@@ -1,0 +1,24 @@
+-- What a search over a dictionary that opens comes to, from the query and the lines alone.
+use Prim.Native.Nat.{ℕ}
+use mathlib.Core.Path.{_≡_}
+use mathlib.Core.List.{List}
+use mathlib.Core.Bool.{true}
+use lib.ListN.{length}
+use Rattle.charset.specs.declared.Charset.the-variants.{Fsw}
+use Rattle.token.specs.Result.{refusal, done}
+use Rattle.querygrammar.specs.Query.{Query}
+use Rattle.query.specs.Reading.{queryOf}
+use Rattle.lines.specs.Lines.{lines}
+use Rattle.run.specs.Narrowing.{keep}
+use Rattle.entries.specs.Entries.{entriesOf}
+use Rattle.entries.specs.Judging.{meets}
+use Rattle.dictionary.specs.Opening.{opening}
+use Rattle.report.specs.Report.{within, refusalText, foundText, searchText}
+
+pub record SearchLaws : Type 0 where
+  -- a query that is accepted finds the entries whose signs meet it
+  pub found : (query dict : List ℕ) (q : Query) → within query dict ≡ true → opening Fsw dict ≡ done (entriesOf dict) → queryOf query ≡ done q
+      → searchText query dict ≡ foundText (length (lines dict)) (keep (meets Fsw dict q) (entriesOf dict))
+  -- a query that is refused gives its own refusal, and there is no other
+  pub refused : (query dict : List ℕ) (number place : ℕ) → within query dict ≡ true → opening Fsw dict ≡ done (entriesOf dict) → queryOf query ≡ refusal number place
+      → searchText query dict ≡ refusalText number place

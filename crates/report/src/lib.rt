@@ -1,0 +1,100 @@
+// The search program, from its whole input to its whole output (document 01, "The search program").
+ghost use mathlib.Core.Path.{_≡_};
+ghost use mathlib.Core.List.{_++_};
+ghost use Prim.Native.Nat.{_≤_, _+_};
+ghost use lib.ListN.{length, drop};
+ghost use Rattle.token.specs.Wrote.{Wrote};
+ghost use Rattle.report.specs.Report.{within, refusalText, foundText, searchText, outputOf, Part};
+use charset::Charset;
+use lines::walk::count;
+use lines::walk::line_end;
+use text::line::put_entries;
+use text::line::put_line;
+use token::refusal::DONE;
+use token::refusal::TOO_MANY;
+
+const MOST_QUERY_BYTES: usize = 1024;
+
+const MOST_BYTES: usize = 49152;
+
+const MOST_LINES: usize = 1024;
+
+// Whether a query and a dictionary are within the three sizes.
+fn is_within(query: &[u8], dict: &[u8]) -> bool
+    ensures { λ r. ⌜ r ≡ within (now (query .entry)) (now (dict .entry)) ⌝ }
+{
+    if MOST_QUERY_BYTES < query.len() {
+        return false;
+    }
+    if MOST_BYTES < dict.len() {
+        return false;
+    }
+    count(dict) <= MOST_LINES
+}
+
+// 38 bytes hold any number and place.
+fn put_refusal(out: &mut [u8], number: u8, place: usize) -> usize
+    requires { ⌜ 38 ≤ length (now out) ⌝ }
+    ensures { λ r. ⌜ Wrote (now (out .entry)) (now (out .exit)) 0 r (refusalText number place) ⌝ }
+{
+    let next = put_line(out, 0, b"answer=", number as usize);
+    put_line(out, next, b"place=", place)
+}
+
+// The line count, and the entries that were kept.
+fn put_found(out: &mut [u8], lines: usize, kept: &[u16]) -> usize
+    requires { ⌜ (lines ≤ 1024) × (length (now kept) ≤ 1024) × (12320 ≤ length (now out)) ⌝ }
+    ensures { λ r. ⌜ Wrote (now (out .entry)) (now (out .exit)) 0 r (foundText lines (now (kept .entry))) ⌝ }
+{
+    let a = put_line(out, 0, b"answer=", 0);
+    let b = put_line(out, a, b"entries=", lines);
+    let c = put_line(out, b, b"kept=", kept.len());
+    put_entries(out, c, kept)
+}
+
+// The list and the flags are working memory.
+fn search(query: &[u8], dict: &[u8], list: &mut [u16], flags: &mut [u8], out: &mut [u8]) -> usize
+    requires { ⌜ (length (now list) ≡ 1024) × (length (now flags) ≡ 1024) × (length (now out) ≡ 12320) ⌝ }
+    ensures { λ r. ⌜ Wrote (now (out .entry)) (now (out .exit)) 0 r (searchText (now (query .entry)) (now (dict .entry))) ⌝ }
+{
+    if !is_within(query, dict) {
+        return put_refusal(out, TOO_MANY, 0);
+    }
+    let opened = dictionary::open(Charset::Fsw, dict, list);
+    let lines = opened.lines;
+    let unopened = opened.number;
+    if unopened != DONE {
+        return put_refusal(out, unopened, opened.place);
+    }
+    let narrowed = dictionary::narrowing::narrow_with(
+        Charset::Fsw,
+        dict,
+        list,
+        lines,
+        query,
+        flags,
+    );
+    let kept = narrowed.kept;
+    let refused = narrowed.number;
+    if refused != DONE {
+        return put_refusal(out, refused, narrowed.place);
+    }
+    put_found(out, lines, &list[..kept])
+}
+
+// Answers a query line and the dictionary after it, and returns the length of the text. 12,320 bytes hold any: 32 for the first
+// three lines, and 12 for each entry.
+pub fn report(input: &[u8], out: &mut [u8; 12320]) -> usize
+    ensures room { λ r. ⌜ Part r (now (out .exit)) ⌝ }
+    ensures answer { λ r. ⌜ r ≡ length (outputOf (now (input .entry))) ⌝ }
+    ensures memory { λ r. ⌜ now (out .exit) ≡ outputOf (now (input .entry)) ++ drop (length (outputOf (now (input .entry)))) (now (out .entry)) ⌝ }
+{
+    let end = line_end(input, 0);
+    let mut start = end;
+    if end < input.len() {
+        start = end + 1;
+    }
+    let mut list = [0u16; 1024];
+    let mut flags = [0u8; 1024];
+    search(&input[..end], &input[start..], &mut list, &mut flags, out)
+}

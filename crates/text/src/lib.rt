@@ -1,0 +1,3 @@
+// Text with numbers in it, written into lent memory.
+
+pub mod line;

@@ -1,0 +1,98 @@
+//! Nanoseconds a line for the library and for the plain reference, as a Markdown table.
+//!
+//! `cargo run --release -p bench [-- [--quick] [--swu]]`: the two sides take turns over the same
+//! dictionary, and each line of the table has the best pass of many.
+
+mod dictionary;
+mod entries;
+
+use dictionary::Book;
+use entries::*;
+use reference::Charset;
+use std::time::{Duration, Instant};
+
+const LINE_COUNTS: [usize; 3] = [1_000, 10_000, 65_535];
+const VERDICT_QUERY: &str = "QS100uuR2fft36c";
+const NARROW_QUERIES: [&str; 5] = [
+    "Q",
+    "QS20500",
+    "QS100uuR2fft36c",
+    "QS100uu480x480",
+    "QAS100uuT",
+];
+
+fn main() {
+    let words: Vec<String> = std::env::args().skip(1).collect();
+    let has = |word: &str| words.iter().any(|given| given == word);
+    if let Some(word) = words.iter().find(|w| *w != "--quick" && *w != "--swu") {
+        eprintln!("{word} is not known here: only --quick and --swu are.");
+        std::process::exit(2);
+    }
+    let time = Duration::from_millis(if has("--quick") { 40 } else { 800 });
+    let set = if has("--swu") {
+        Charset::Swu
+    } else {
+        Charset::Fsw
+    };
+    println!("| {set:?} entry | lines | library ns/line | reference ns/line | ratio |");
+    println!("|---|--:|--:|--:|--:|");
+    for count in LINE_COUNTS {
+        let book = Book::new(set, count);
+        rows(&Bench { book, time }, set);
+    }
+}
+
+fn rows(bench: &Bench, set: Charset) {
+    let b = &bench.book;
+    bench.row("read", || read_library(b, set), || read_reference(b, set));
+    bench.row(
+        "transcribe",
+        || transcribe_library(b, set),
+        || transcribe_reference(b, set),
+    );
+    let query = VERDICT_QUERY.as_bytes();
+    bench.row(
+        &format!("verdict by `{VERDICT_QUERY}`"),
+        || verdict_library(b, set, query),
+        || verdict_reference(b, set, query),
+    );
+    bench.row(
+        "centred",
+        || centred_library(b, set),
+        || centred_reference(b, set),
+    );
+    bench.row("open", || open_library(b, set), || open_reference(b, set));
+    for query in NARROW_QUERIES {
+        bench.row(
+            &format!("narrow by `{query}`"),
+            || narrow_library(b, set, query.as_bytes()),
+            || narrow_reference(b, set, query.as_bytes()),
+        );
+    }
+}
+
+struct Bench {
+    book: Book,
+    /// How long the passes of one row may take.
+    time: Duration,
+}
+
+impl Bench {
+    /// Runs both in turn until the time is up, at least three times, and prints the best.
+    fn row(&self, name: &str, library: impl Fn() -> Pass, reference: impl Fn() -> Pass) {
+        let start = Instant::now();
+        let mut best = [Duration::MAX; 2];
+        let mut rounds = 0;
+        while rounds < 3 || start.elapsed() < self.time {
+            let (library_time, library_sum) = library();
+            let (reference_time, reference_sum) = reference();
+            assert_eq!(library_sum, reference_sum, "{name}: the two sides differ");
+            best = [best[0].min(library_time), best[1].min(reference_time)];
+            rounds += 1;
+        }
+        let lines = self.book.count();
+        let [library, reference] = best.map(|time| time.as_nanos() as f64 / lines as f64);
+        let ratio = library / reference;
+        println!("| {name} | {lines} | {library:.1} | {reference:.1} | {ratio:.2} |");
+    }
+}

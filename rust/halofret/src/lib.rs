@@ -1,0 +1,273 @@
+//! Written signs in Formal SignWriting: a safe wrapper over the proved static library.
+//!
+//! A call takes slices and answers a value or a [`Refusal`]. A refused call changes none
+//! of the memory it was lent. Nothing is ever cut short: where there is too little room
+//! the call is refused as 6, with the room needed as its place.
+//!
+//! ```
+//! use halofret::{transcribe, Charset};
+//!
+//! let mut out = [0; 912];
+//! let length = transcribe(Charset::Fsw, b"M500x500", &mut out)?;
+//! assert_eq!(&out[..length], "𝠃𝤆𝤆".as_bytes());
+//!
+//! let refusal = transcribe(Charset::Fsw, b"M500x500", &mut []).unwrap_err();
+//! assert_eq!((refusal.number, refusal.place), (6, 12));
+//! # Ok::<(), halofret::Refusal>(())
+//! ```
+
+mod answers;
+pub mod raw;
+mod refusal;
+
+pub use answers::{Bounds, Boxes, Fetched, Narrowed, Placed, Sign, Verdict};
+pub use refusal::Refusal;
+
+/// The bytes of a size list: width and height for each code from 1 to 62,592.
+pub const SIZE_LIST_LENGTH: usize = 125_184;
+
+/// The character set of a text.
+#[derive(Clone, Copy, Debug, PartialEq, Eq)]
+pub enum Charset {
+    /// ASCII.
+    Fsw,
+    /// Unicode, as UTF-8.
+    Swu,
+}
+
+impl Charset {
+    fn is_swu(self) -> bool {
+        self == Charset::Swu
+    }
+}
+
+/// The code of a symbol key such as `S10000`.
+pub fn key_to_code(key: &[u8]) -> Result<u16, Refusal> {
+    let mut answer = [0; 3];
+    // SAFETY: here and below, each pointer goes with the length of its slice, every slice
+    // lives through the call, and Rust's borrows keep lent slices apart.
+    unsafe { raw::halofret_key_to_code(key.as_ptr(), key.len(), &mut answer) };
+    Refusal::check(&answer)?;
+    Ok(answer[2] as u16)
+}
+
+/// The code of a symbol character, as UTF-8.
+pub fn char_to_code(character: &[u8]) -> Result<u16, Refusal> {
+    let mut answer = [0; 3];
+    unsafe { raw::halofret_char_to_code(character.as_ptr(), character.len(), &mut answer) };
+    Refusal::check(&answer)?;
+    Ok(answer[2] as u16)
+}
+
+/// Writes the key of a code at the start of `out`; answers its length, 6.
+pub fn code_to_key(code: u64, out: &mut [u8]) -> Result<usize, Refusal> {
+    let mut answer = [0; 3];
+    unsafe { raw::halofret_code_to_key(code, out.as_mut_ptr(), out.len(), &mut answer) };
+    written(&answer)
+}
+
+/// Writes the character of a code at the start of `out`; answers its length, 4.
+pub fn code_to_char(code: u64, out: &mut [u8]) -> Result<usize, Refusal> {
+    let mut answer = [0; 3];
+    unsafe { raw::halofret_code_to_char(code, out.as_mut_ptr(), out.len(), &mut answer) };
+    written(&answer)
+}
+
+fn written(answer: &[u64; 3]) -> Result<usize, Refusal> {
+    Refusal::check(answer)?;
+    Ok(answer[2] as usize)
+}
+
+/// Reads a sign.
+pub fn read(charset: Charset, text: &[u8]) -> Result<Sign, Refusal> {
+    let mut sign = Sign::default();
+    let mut answer = [0; 2];
+    unsafe {
+        raw::halofret_read(
+            charset.is_swu(),
+            text.as_ptr(),
+            text.len(),
+            sign.record_mut(),
+            &mut answer,
+        )
+    };
+    Refusal::check(&answer)?;
+    Ok(sign)
+}
+
+/// Writes a sign in the other character set; answers the length.
+pub fn transcribe(charset: Charset, text: &[u8], out: &mut [u8]) -> Result<usize, Refusal> {
+    let mut answer = [0; 3];
+    unsafe {
+        raw::halofret_transcribe(
+            charset.is_swu(),
+            text.as_ptr(),
+            text.len(),
+            out.as_mut_ptr(),
+            out.len(),
+            &mut answer,
+        )
+    };
+    written(&answer)
+}
+
+/// The boxes and the centre of a sign.
+pub fn boxes(charset: Charset, text: &[u8], sizes: &[u8]) -> Result<Boxes, Refusal> {
+    let mut centre = [0.0; 2];
+    let mut answer = [0; 19];
+    unsafe {
+        raw::halofret_boxes(
+            charset.is_swu(),
+            text.as_ptr(),
+            text.len(),
+            sizes.as_ptr(),
+            sizes.len(),
+            &mut centre,
+            &mut answer,
+        )
+    };
+    Refusal::check(&answer)?;
+    Ok(Boxes::of(&answer, centre))
+}
+
+/// Writes a sign moved by a pair, in its own character set; answers the length.
+pub fn shift(
+    charset: Charset,
+    text: &[u8],
+    dx: i32,
+    dy: i32,
+    out: &mut [u8],
+) -> Result<usize, Refusal> {
+    let mut answer = [0; 3];
+    unsafe {
+        raw::halofret_shift(
+            charset.is_swu(),
+            text.as_ptr(),
+            text.len(),
+            dx,
+            dy,
+            out.as_mut_ptr(),
+            out.len(),
+            &mut answer,
+        )
+    };
+    written(&answer)
+}
+
+/// Writes a sign centred on 500 by 500, in its own character set; answers the length.
+pub fn centred(
+    charset: Charset,
+    text: &[u8],
+    sizes: &[u8],
+    out: &mut [u8],
+) -> Result<usize, Refusal> {
+    let mut answer = [0; 3];
+    unsafe {
+        raw::halofret_centred(
+            charset.is_swu(),
+            text.as_ptr(),
+            text.len(),
+            sizes.as_ptr(),
+            sizes.len(),
+            out.as_mut_ptr(),
+            out.len(),
+            &mut answer,
+        )
+    };
+    written(&answer)
+}
+
+/// Says whether a query is well-formed and within its limits.
+pub fn read_query(query: &[u8]) -> Result<(), Refusal> {
+    let mut answer = [0; 2];
+    unsafe { raw::halofret_read_query(query.as_ptr(), query.len(), &mut answer) };
+    Refusal::check(&answer)
+}
+
+/// Whether a sign meets a query.
+pub fn verdict(charset: Charset, query: &[u8], text: &[u8]) -> Result<Verdict, Refusal> {
+    let mut answer = [0; 36];
+    unsafe {
+        raw::halofret_verdict(
+            charset.is_swu(),
+            query.as_ptr(),
+            query.len(),
+            text.as_ptr(),
+            text.len(),
+            &mut answer,
+        )
+    };
+    Refusal::check(&answer)?;
+    Ok(Verdict::of(&answer))
+}
+
+/// Reads every line and fills the list with 1 to the line count, which it answers.
+pub fn open(charset: Charset, dictionary: &[u8], list: &mut [u16]) -> Result<usize, Refusal> {
+    let mut answer = [0; 3];
+    unsafe {
+        raw::halofret_open(
+            charset.is_swu(),
+            dictionary.as_ptr(),
+            dictionary.len(),
+            list.as_mut_ptr(),
+            list.len(),
+            &mut answer,
+        )
+    };
+    written(&answer)
+}
+
+/// Keeps those of the first `count` entries of the list that meet the query, zeros after them.
+pub fn narrow(
+    charset: Charset,
+    dictionary: &[u8],
+    list: &mut [u16],
+    count: usize,
+    query: &[u8],
+) -> Result<Narrowed, Refusal> {
+    let mut answer = [0; 4];
+    unsafe {
+        raw::halofret_narrow(
+            charset.is_swu(),
+            dictionary.as_ptr(),
+            dictionary.len(),
+            list.as_mut_ptr(),
+            list.len(),
+            count,
+            query.as_ptr(),
+            query.len(),
+            &mut answer,
+        )
+    };
+    Refusal::check(&answer)?;
+    Ok(Narrowed {
+        kept: answer[2] as usize,
+        dropped: answer[3] as usize,
+    })
+}
+
+/// Line `number` of the first dictionary and, running on, of the second.
+pub fn fetch<'a>(first: &'a [u8], second: &'a [u8], number: usize) -> Result<Fetched<'a>, Refusal> {
+    let mut answer = [0; 4];
+    unsafe {
+        raw::halofret_fetch(
+            first.as_ptr(),
+            first.len(),
+            second.as_ptr(),
+            second.len(),
+            number,
+            &mut answer,
+        )
+    };
+    let [number, book, start, length] = answer;
+    // This answer has no place: every refusal of fetching has place 0.
+    Refusal::check(&[number, 0])?;
+    let in_second = book == 1;
+    let book = if in_second { second } else { first };
+    let start = start as usize;
+    Ok(Fetched {
+        in_second,
+        start,
+        line: &book[start..start + length as usize],
+    })
+}

@@ -1,0 +1,164 @@
+//! Opening, narrowing and fetching (document 01, "The dictionary and its list").
+
+use crate::query::{judge, read_query, Verdict};
+use crate::sign::{read_into, Sign};
+use crate::{refuse, Answer, Charset};
+use std::io::BufRead;
+
+pub const MOST_LINES: usize = 65_535;
+const LINE_END: u8 = 10;
+
+/// The number of lines of a dictionary that is ended.
+fn count_lines(dictionary: &[u8]) -> usize {
+    dictionary.iter().filter(|&&byte| byte == LINE_END).count()
+}
+
+fn is_ended(dictionary: &[u8]) -> bool {
+    dictionary.last().is_none_or(|&last| last == LINE_END)
+}
+
+/// The line count; 12 and 14 are the same for opening and narrowing.
+fn checked_lines(dictionary: &[u8]) -> Answer<usize> {
+    if !is_ended(dictionary) {
+        return refuse(12, 0);
+    }
+    let lines = count_lines(dictionary);
+    if lines > MOST_LINES {
+        return refuse(14, 0);
+    }
+    Ok(lines)
+}
+
+/// The lines of a dictionary that is ended, each as a part of it, without its byte 10.
+struct Lines<'a> {
+    rest: &'a [u8],
+}
+
+impl<'a> Iterator for Lines<'a> {
+    type Item = &'a [u8];
+
+    fn next(&mut self) -> Option<&'a [u8]> {
+        let text = self.rest;
+        let length = self.rest.skip_until(LINE_END).ok()?;
+        text[..length].strip_suffix(&[LINE_END])
+    }
+}
+
+fn lines_of(dictionary: &[u8]) -> Lines<'_> {
+    Lines { rest: dictionary }
+}
+
+/// Reads every line, then fills the list with 1 to the line count, which it answers.
+pub fn open(charset: Charset, dictionary: &[u8], list: &mut [u16]) -> Answer<usize> {
+    let line_count = checked_lines(dictionary)?;
+    let mut sign = Sign::EMPTY;
+    for (index, line) in lines_of(dictionary).enumerate() {
+        if read_into(charset, line, &mut sign).is_err() {
+            return refuse(13, index + 1);
+        }
+    }
+    let Some(list) = list.get_mut(..line_count) else {
+        return refuse(6, line_count);
+    };
+    for (index, entry) in list.iter_mut().enumerate() {
+        *entry = index as u16 + 1;
+    }
+    Ok(line_count)
+}
+
+/// How many entries narrowing kept, and how many it dropped.
+#[derive(Clone, Copy, Debug, PartialEq, Eq)]
+pub struct Narrowed {
+    pub kept: usize,
+    pub dropped: usize,
+}
+
+/// Keeps those of the first `count` entries that meet the query.
+pub fn narrow(
+    charset: Charset,
+    dictionary: &[u8],
+    list: &mut [u16],
+    count: usize,
+    query: &[u8],
+) -> Answer<Narrowed> {
+    let query = read_query(query)?;
+    let line_count = checked_lines(dictionary)?;
+    let Some(list) = list.get_mut(..count).filter(|list| rises(list, line_count)) else {
+        return refuse(11, 0);
+    };
+    // A bad line may be the last one listed, so nothing is written before all are read.
+    let mut meets = vec![false; count];
+    let mut sign = Sign::EMPTY;
+    let mut lines = lines_of(dictionary);
+    let mut last = 0;
+    for (meets, &entry) in meets.iter_mut().zip(list.iter()) {
+        let line = lines.nth(usize::from(entry - last - 1)).unwrap_or_default();
+        last = entry;
+        if read_into(charset, line, &mut sign).is_err() {
+            return refuse(13, usize::from(entry));
+        }
+        *meets = matches!(judge(&query, &sign), Verdict::Met(_));
+    }
+    let kept = compact(list, &meets);
+    let dropped = count - kept;
+    Ok(Narrowed { kept, dropped })
+}
+
+/// Strictly rising in 1 to the line count.
+fn rises(list: &[u16], line_count: usize) -> bool {
+    list.first().is_none_or(|&first| first > 0)
+        && list
+            .last()
+            .is_none_or(|&last| usize::from(last) <= line_count)
+        && list.windows(2).all(|pair| pair[0] < pair[1])
+}
+
+/// Moves the kept entries to the front, zeros after them, and counts them.
+fn compact(list: &mut [u16], keep: &[bool]) -> usize {
+    let mut kept = 0;
+    for index in 0..list.len() {
+        if keep[index] {
+            list[kept] = list[index];
+            kept += 1;
+        }
+    }
+    list[kept..].fill(0);
+    kept
+}
+
+/// A line and where it lies.
+#[derive(Clone, Copy, Debug, PartialEq, Eq)]
+pub struct Fetched<'a> {
+    pub in_second: bool,
+    pub start: usize,
+    pub line: &'a [u8],
+}
+
+/// Line `number` of the first dictionary and, running on, of the second.
+pub fn fetch<'a>(first: &'a [u8], second: &'a [u8], number: usize) -> Answer<Fetched<'a>> {
+    if !is_ended(first) || !is_ended(second) {
+        return refuse(12, 0);
+    }
+    let (in_first, in_second) = (count_lines(first), count_lines(second));
+    if in_first > MOST_LINES || in_second > MOST_LINES {
+        return refuse(14, 0);
+    }
+    if number == 0 || number > in_first + in_second {
+        return refuse(16, 0);
+    }
+    let beyond = number > in_first;
+    let (book, before) = match beyond {
+        false => (first, number - 1),
+        true => (second, number - 1 - in_first),
+    };
+    let mut start = 0;
+    for line in lines_of(book).take(before) {
+        start += line.len() + 1;
+    }
+    let line = lines_of(&book[start..]).next().unwrap_or_default();
+    Ok(Fetched {
+        in_second: beyond,
+        start,
+        line,
+    })
+}

@@ -1,0 +1,54 @@
+//! A plain implementation of document 01, to hold the proved library against.
+//!
+//! It was written from the paper alone and shares no code with the library. It is
+//! simple first, but allocates nothing for a line, so that its speed is a fair measure.
+//!
+//! - `symbol`: symbol codes, keys and characters
+//! - `text`: the tokens of both character sets, read one after another
+//! - `sign`: reading, writing and transcribing a sign
+//! - `geometry`: boxes, centres, shifting and centring
+//! - `query`: reading a query, and its verdict on a sign
+//! - `dictionary`: opening, narrowing and fetching
+
+mod dictionary;
+mod geometry;
+mod query;
+mod sign;
+mod symbol;
+mod text;
+
+pub use dictionary::{fetch, narrow, open, Fetched, Narrowed, MOST_LINES};
+pub use geometry::{boxes, centred, shift, Bounds, Boxes, SIZE_LIST_LENGTH};
+pub use query::{read_query, verdict, Query, Verdict, MOST_ITEMS};
+pub use sign::{read, read_into, transcribe, Placed, Sign, MOST_PREFIX, MOST_SYMBOLS};
+pub use symbol::{char_to_code, code_to_char, code_to_key, key_to_code, LAST_CODE};
+
+/// The two ways to write a sign: ASCII or Unicode.
+#[derive(Clone, Copy, Debug, PartialEq, Eq)]
+pub enum Charset {
+    Fsw,
+    Swu,
+}
+
+impl Charset {
+    /// The set that transcription writes.
+    pub fn other(self) -> Charset {
+        match self {
+            Charset::Fsw => Charset::Swu,
+            Charset::Swu => Charset::Fsw,
+        }
+    }
+}
+
+/// Why a call was refused (document 01, "Refusal numbers").
+#[derive(Clone, Copy, Debug, PartialEq, Eq)]
+pub struct Refusal {
+    pub number: u8,
+    pub place: usize,
+}
+
+pub type Answer<T> = Result<T, Refusal>;
+
+pub(crate) fn refuse<T>(number: u8, place: usize) -> Answer<T> {
+    Err(Refusal { number, place })
+}

@@ -1,0 +1,64 @@
+//! The entries of `include/halofret.h`, each answering the numbers that C is given.
+
+use halofret::Charset;
+
+pub type SignRecord = [u16; 229];
+
+pub trait Interface {
+    fn key_to_code(&self, key: &[u8]) -> [u64; 3];
+    fn char_to_code(&self, character: &[u8]) -> [u64; 3];
+    fn code_to_key(&self, code: u64, out: &mut [u8]) -> [u64; 3];
+    fn code_to_char(&self, code: u64, out: &mut [u8]) -> [u64; 3];
+    fn read(&self, set: Charset, text: &[u8]) -> (SignRecord, [u64; 2]);
+    fn transcribe(&self, set: Charset, text: &[u8], out: &mut [u8]) -> [u64; 3];
+    fn boxes(&self, set: Charset, text: &[u8], sizes: &[u8]) -> ([f32; 2], [u64; 19]);
+    fn shift(&self, set: Charset, text: &[u8], by: (i32, i32), out: &mut [u8]) -> [u64; 3];
+    fn centred(&self, set: Charset, text: &[u8], sizes: &[u8], out: &mut [u8]) -> [u64; 3];
+    fn read_query(&self, query: &[u8]) -> [u64; 2];
+    fn verdict(&self, set: Charset, query: &[u8], text: &[u8]) -> [u64; 36];
+    fn open(&self, set: Charset, dictionary: &[u8], list: &mut [u16]) -> [u64; 3];
+    fn narrow(
+        &self,
+        set: Charset,
+        dictionary: &[u8],
+        list: &mut [u16],
+        count: usize,
+        query: &[u8],
+    ) -> [u64; 4];
+    fn fetch(&self, first: &[u8], second: &[u8], number: usize) -> [u64; 4];
+}
+
+/// The numbers of an answer: the refusal and zeros, or 0, 0 and the values.
+pub fn numbers<const N: usize>(answer: Result<Vec<u64>, (u8, usize)>) -> [u64; N] {
+    let mut numbers = [0; N];
+    match answer {
+        Ok(values) => numbers[2..2 + values.len()].copy_from_slice(&values),
+        Err((number, place)) => {
+            numbers[0] = number.into();
+            numbers[1] = place as u64;
+        }
+    }
+    numbers
+}
+
+/// The record of a sign from its parts.
+pub fn sign_record(
+    marker: char,
+    maximum: (u16, u16),
+    prefix: &[u16],
+    symbols: impl ExactSizeIterator<Item = [u16; 3]>,
+) -> SignRecord {
+    let mut record = [0; 229];
+    record[0] = "-BLMR".find(marker).expect("a marker") as u16;
+    record[1] = maximum.0;
+    record[2] = maximum.1;
+    record[3] = prefix.len() as u16;
+    record[4] = symbols.len() as u16;
+    record[5..5 + prefix.len()].copy_from_slice(prefix);
+    for (index, symbol) in symbols.enumerate() {
+        for (part, value) in symbol.into_iter().enumerate() {
+            record[37 + 64 * part + index] = value;
+        }
+    }
+    record
+}

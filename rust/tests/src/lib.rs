@@ -1,0 +1,24 @@
+//! Holds the library against the reference on seeded inputs.
+//!
+//! - `interface`: the C interface as a trait, each entry with its numbers laid out as in C
+//! - `library`: the C interface itself, called on guarded memory
+//! - `sides`: the reference and the safe wrapper in the same layout
+//! - `both`: all of them at once; it fails where they differ
+//! - `generate`, `damage`, `random`: seeded signs, queries and dictionaries, and their damage
+
+pub mod both;
+pub mod damage;
+pub mod generate;
+pub mod interface;
+mod lent;
+pub mod library;
+pub mod random;
+mod sides;
+
+pub use both::Both;
+pub use interface::Interface;
+pub use random::{cases, Random, Tally};
+
+pub use halofret::Charset;
+
+pub const BOTH_SETS: [Charset; 2] = [Charset::Fsw, Charset::Swu];

@@ -1,0 +1,146 @@
+//! The reference and the safe wrapper, laid out as the C interface.
+//!
+//! The two are separate crates with separate types, but their names and shapes agree, so one
+//! macro lays out both.
+
+use crate::interface::{numbers, sign_record, Interface, SignRecord};
+use halofret::Charset;
+
+pub struct Reference;
+pub struct Wrapper;
+
+fn reference_set(set: Charset) -> reference::Charset {
+    match set {
+        Charset::Fsw => reference::Charset::Fsw,
+        Charset::Swu => reference::Charset::Swu,
+    }
+}
+
+fn wrapper_set(set: Charset) -> Charset {
+    set
+}
+
+/// The numbers of an answer, by a function from its value to the numbers after the place.
+macro_rules! lay_out {
+    ($answer:expr, $values:expr) => {
+        numbers($answer.map($values).map_err(|r| (r.number, r.place)))
+    };
+}
+
+fn one(value: impl TryInto<u64>) -> Vec<u64> {
+    vec![value.try_into().ok().expect("a value below 2 to the 64")]
+}
+
+macro_rules! bounds {
+    ($bounds:expr) => {
+        $bounds.map_or([0; 5], |b| {
+            [1, b.left, b.top, b.right, b.bottom].map(u64::from)
+        })
+    };
+}
+
+macro_rules! side {
+    ($side:ident, $of:ident, $set_of:ident) => {
+        impl Interface for $side {
+            fn key_to_code(&self, key: &[u8]) -> [u64; 3] {
+                lay_out!($of::key_to_code(key), one)
+            }
+
+            fn char_to_code(&self, character: &[u8]) -> [u64; 3] {
+                lay_out!($of::char_to_code(character), one)
+            }
+
+            fn code_to_key(&self, code: u64, out: &mut [u8]) -> [u64; 3] {
+                lay_out!($of::code_to_key(code, out), one)
+            }
+
+            fn code_to_char(&self, code: u64, out: &mut [u8]) -> [u64; 3] {
+                lay_out!($of::code_to_char(code, out), one)
+            }
+
+            fn read(&self, set: Charset, text: &[u8]) -> (SignRecord, [u64; 2]) {
+                let answer = $of::read($set_of(set), text);
+                let record = answer.as_ref().map_or([0; 229], |sign| {
+                    let symbols = sign.symbols().into_iter().map(|s| [s.code, s.x, s.y]);
+                    sign_record(sign.marker(), sign.maximum(), sign.prefix(), symbols)
+                });
+                (record, lay_out!(answer, |_| vec![]))
+            }
+
+            fn transcribe(&self, set: Charset, text: &[u8], out: &mut [u8]) -> [u64; 3] {
+                lay_out!($of::transcribe($set_of(set), text, out), one)
+            }
+
+            fn boxes(&self, set: Charset, text: &[u8], sizes: &[u8]) -> ([f32; 2], [u64; 19]) {
+                let answer = $of::boxes($set_of(set), text, sizes);
+                let centre = answer.map_or([0.0; 2], |boxes| boxes.centre().into());
+                let values = |boxes: $of::Boxes| {
+                    let head = bounds!(boxes.head);
+                    let head_and_trunk = bounds!(boxes.head_and_trunk);
+                    let all = bounds!(Some(boxes.all));
+                    let (x, y) = boxes.doubled_centre();
+                    let doubled = [x, y].map(u64::from);
+                    [&head[..], &head_and_trunk, &all, &doubled].concat()
+                };
+                (centre, lay_out!(answer, values))
+            }
+
+            fn shift(&self, set: Charset, text: &[u8], by: (i32, i32), out: &mut [u8]) -> [u64; 3] {
+                lay_out!($of::shift($set_of(set), text, by.0, by.1, out), one)
+            }
+
+            fn centred(&self, set: Charset, text: &[u8], sizes: &[u8], out: &mut [u8]) -> [u64; 3] {
+                lay_out!($of::centred($set_of(set), text, sizes, out), one)
+            }
+
+            fn read_query(&self, query: &[u8]) -> [u64; 2] {
+                lay_out!($of::read_query(query), |_| vec![])
+            }
+
+            fn verdict(&self, set: Charset, query: &[u8], text: &[u8]) -> [u64; 36] {
+                let values = |verdict| match verdict {
+                    $of::Verdict::Unmet(condition) => vec![0, condition as u64],
+                    $of::Verdict::Met(witnesses) => {
+                        let witnesses = witnesses.map(u64::from);
+                        [&[1, 0], &witnesses[..]].concat()
+                    }
+                };
+                lay_out!($of::verdict($set_of(set), query, text), values)
+            }
+
+            fn open(&self, set: Charset, dictionary: &[u8], list: &mut [u16]) -> [u64; 3] {
+                lay_out!($of::open($set_of(set), dictionary, list), one)
+            }
+
+            fn narrow(
+                &self,
+                set: Charset,
+                dictionary: &[u8],
+                list: &mut [u16],
+                count: usize,
+                query: &[u8],
+            ) -> [u64; 4] {
+                let answer = $of::narrow($set_of(set), dictionary, list, count, query);
+                let values =
+                    |narrowed: $of::Narrowed| vec![narrowed.kept as u64, narrowed.dropped as u64];
+                lay_out!(answer, values)
+            }
+
+            fn fetch(&self, first: &[u8], second: &[u8], number: usize) -> [u64; 4] {
+                match $of::fetch(first, second, number) {
+                    Err(refusal) => [refusal.number.into(), refusal.place as u64, 0, 0],
+                    Ok(found) => {
+                        let book = if found.in_second { second } else { first };
+                        let end = found.start + found.line.len();
+                        assert_eq!(found.line, &book[found.start..end]);
+                        let book = found.in_second.into();
+                        [0, book, found.start as u64, found.line.len() as u64]
+                    }
+                }
+            }
+        }
+    };
+}
+
+side!(Reference, reference, reference_set);
+side!(Wrapper, halofret, wrapper_set);
