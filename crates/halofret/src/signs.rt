@@ -8,9 +8,11 @@ ghost use Rattle.reader.specs.Signs.{signOf};
 ghost use Rattle.sign.specs.Reading.{readingOf};
 ghost use Rattle.sign.specs.Transcription.{transcription};
 ghost use Rattle.halofret.specs.Layouts.{setOf, writtenNumbers, readingNumbers, signNumbers, signLeft};
+ghost use Rattle.halofret.specs.Inner.{signIn, Counted};
 use super::numbers::set_of;
 use super::numbers::written_numbers;
-use sign::Sign;
+use reader::arrays::Head;
+use reader::arrays::read_into;
 use token::refusal::DONE;
 
 // Copies numbers into an array from a place on. A caller does not learn the array's length from its type, so it is said.
@@ -26,29 +28,21 @@ fn put(to: &mut [u16; 229], at: usize, from: &[u16])
     }
 }
 
-// A sign in the order of halofret_read.
-fn sign_numbers(s: Sign) -> [u16; 229]
-    requires { ⌜ (s .«prefix_count» ≤ 32) × (s .«symbol_count» ≤ 64) ⌝ }
-    ensures { λ r. ⌜ r ≡ signNumbers s ⌝ }
+// Lays a sign out that was read into arrays. Only what was read is copied, onto zeros: a wide copy of numbers just stored one
+// by one would wait for them.
+fn put_sign(sign: &mut [u16; 229], h: Head, prefix: &[u16], codes: &[u16], xs: &[u16], ys: &[u16])
+    requires { ⌜ Counted h (now prefix) (now codes) (now xs) (now ys) ⌝ }
+    ensures { λ _. ⌜ now (sign .exit) ≡ signNumbers (signIn h (now (prefix .entry)) (now (codes .entry)) (now (xs .entry)) (now (ys .entry))) ⌝ }
 {
-    let head = [
-        s.marker,
-        s.max_x,
-        s.max_y,
-        s.prefix_count as u16,
-        s.symbol_count as u16,
-    ];
-    let mut all = [0u16; 229];
-    put(&mut all, 0, &head);
-    let prefix = s.prefix;
-    put(&mut all, 5, &prefix);
-    let codes = s.codes;
-    put(&mut all, 37, &codes);
-    let xs = s.xs;
-    put(&mut all, 101, &xs);
-    let ys = s.ys;
-    put(&mut all, 165, &ys);
-    all
+    let p = h.prefix_count;
+    let n = h.symbol_count;
+    let head = [h.marker, h.max_x, h.max_y, p as u16, n as u16];
+    *sign = [0u16; 229];
+    put(sign, 0, &head);
+    put(sign, 5, &prefix[..p]);
+    put(sign, 37, &codes[..n]);
+    put(sign, 101, &xs[..n]);
+    put(sign, 165, &ys[..n]);
 }
 
 // Reads a sign into 229 numbers: marker, maximum x and y, prefix count, symbol count, 32 prefix codes, then 64 codes, 64 x
@@ -63,10 +57,16 @@ pub extern "C" fn halofret_read(
     ensures answer { λ _. ⌜ now (answer .exit) ≡ readingNumbers (readingOf (signOf (setOf swu) (now (text .entry)))) ⌝ }
     ensures memory { λ _. ⌜ now (sign .exit) ≡ signLeft (now (sign .entry)) (readingOf (signOf (setOf swu) (now (text .entry)))) ⌝ }
 {
-    let r = sign::read(set_of(swu), text);
-    *answer = [r.number as u64, r.place as u64];
-    if r.number == DONE {
-        *sign = sign_numbers(r.sign);
+    let mut prefix = [0u16; 32];
+    let mut codes = [0u16; 64];
+    let mut xs = [0u16; 64];
+    let mut ys = [0u16; 64];
+    let h = read_into(set_of(swu), text, &mut prefix, &mut codes, &mut xs, &mut ys);
+    let number = h.number;
+    let place = h.place;
+    *answer = [number as u64, place as u64];
+    if number == DONE {
+        put_sign(sign, h, &prefix, &codes, &xs, &ys);
     }
 }
 
