@@ -14,7 +14,7 @@ use Rattle.charset.specs.Tokens.{lastCode, lastWriting}
 use Rattle.grammar.specs.Sign.{Spatial, Meaning, ValidSymbol, signText}
 use Rattle.token.specs.declared.Written.{Written}
 use Rattle.token.specs.Result.{Result, refusal, done, onDone, andThen}
-use Rattle.token.proofs.Answers.{Answers, answers-refused}
+use Rattle.writer.proofs.Answers.{Answers, answers-refused}
 use Rattle.reader.specs.declared.arrays.Head.{Head}
 use Rattle.reader.specs.Signs.{signOf}
 use Rattle.reader.specs.Inner.{ReadInto}

@@ -14,12 +14,12 @@ use Rattle.dictionary.specs.Fetching.{Entry, fetching, refusalAs}
 use Rattle.dictionary.proofs.Fetches.{Accepted}
 use Rattle.halofret.specs.Dictionaries.{lineNumbers, fetchedNumbers}
 
-pub line-told : (book : ℕ) (d : List ℕ) (k a e : ℕ) → a ≡ lineStart d k → Line d k a e → (0 ∷ book ∷ a ∷ (e - a) ∷ []) ≡ lineNumbers book d k
-line-told book d k a e s l =
+pub line-told : (which : ℕ) (d : List ℕ) (k a e : ℕ) → a ≡ lineStart d k → Line d k a e → (0 ∷ which ∷ a ∷ (e - a) ∷ []) ≡ lineNumbers which d k
+line-told which d k a e s l =
     let high = l .high in
     let size : e - a ≡ length (lineOf d k) =
     sym (length-take-le (e - a) (drop a d) (omega (arith, length-drop a d))) ∙ ap length (l .part) in
-    λ i. 0 ∷ book ∷ s i ∷ size i ∷ []
+    λ i. 0 ∷ which ∷ s i ∷ size i ∷ []
 
 module _ (d s : List ℕ) (k : ℕ) where
   pub fetch-refused : (r : Refusal) → r ≡ refusalAs (fetching d s k) → (r .number ≡ 0 → ⊥) → (r .number ∷ 0 ∷ 0 ∷ 0 ∷ []) ≡ fetchedNumbers d s (fetching d s k)

@@ -14,9 +14,9 @@ openedNumbers o = o .number ∷ o .place ∷ o .lines ∷ []
 abbrev pub narrowedNumbers : Narrowed → List ℕ
 narrowedNumbers r = r .number ∷ r .place ∷ r .kept ∷ r .dropped ∷ []
 
--- line k of a book: the book, where the line starts, and its length
+-- line k of a dictionary: which it is, where the line starts, and its length
 abbrev pub lineNumbers : ℕ → List ℕ → ℕ → List ℕ
-lineNumbers book d k = 0 ∷ book ∷ lineStart d k ∷ length (lineOf d k) ∷ []
+lineNumbers which d k = 0 ∷ which ∷ lineStart d k ∷ length (lineOf d k) ∷ []
 
 -- Fetching has no place: each of its refusals has place 0.
 abbrev pub fetchedNumbers : List ℕ → List ℕ → Result Entry → List ℕ

@@ -8,7 +8,7 @@ use lib.ListN.{getD}
 use Rattle.format.specs.Format.{choose}
 use Rattle.charset.specs.declared.Charset.{Charset}
 use Rattle.charset.specs.declared.Charset.the-variants.{Fsw, Swu}
-use Rattle.token.specs.declared.Code.{Code}
+use Rattle.symbol.specs.declared.Code.{Code}
 use Rattle.token.specs.declared.Written.{Written}
 use Rattle.sign.specs.declared.Sign.{Sign}
 use Rattle.sign.specs.declared.Reading.{Reading}

@@ -47,18 +47,18 @@ pub extern "C" fn halofret_narrow(
     ];
 }
 
-// Where line k lies in a book.
-fn line_numbers(book: u64, d: &[u8], k: usize) -> [u64; 4]
+// Where line k of a dictionary lies, which is the first or the second.
+fn line_numbers(which: u64, d: &[u8], k: usize) -> [u64; 4]
     requires { ⌜ (1 ≤ k) × (k ≤ length (lines (now d))) ⌝ }
-    ensures { λ r. ⌜ r ≡ lineNumbers book (now (d .entry)) k ⌝ }
+    ensures { λ r. ⌜ r ≡ lineNumbers which (now (d .entry)) k ⌝ }
 {
     let start = line_start(d, k);
     let end = line_end(d, start);
-    [DONE as u64, book, start as u64, (end - start) as u64]
+    [DONE as u64, which, start as u64, (end - start) as u64]
 }
 
-// Where the line of this number lies: the book, 0 for the first and 1 for the second, its start there and its length,
-// without its byte 10. Numbers start from 1 and run on from the first book into the second. Refused: its number, and zeros.
+// Where the line of this number lies: 0 for the first dictionary and 1 for the second, its start there and its length,
+// without its byte 10. Numbers start from 1 and run on from the first into the second. Refused: its number, and zeros.
 #[no_mangle]
 pub extern "C" fn halofret_fetch(first: &[u8], second: &[u8], number: usize, answer: &mut [u64; 4])
     ensures { λ _. ⌜ now (answer .exit) ≡ fetchedNumbers (now (first .entry)) (now (second .entry)) (fetching (now (first .entry)) (now (second .entry)) number) ⌝ }

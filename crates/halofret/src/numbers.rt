@@ -2,7 +2,7 @@
 ghost use mathlib.Core.Path.{_≡_};
 ghost use Rattle.halofret.specs.Layouts.{setOf, codeNumbers, writtenNumbers};
 use charset::Charset;
-use token::Code;
+use symbol::Code;
 use token::Written;
 
 // SWU for true and FSW for false.

@@ -9,7 +9,7 @@ use Rattle.charset.specs.declared.Charset.{Charset}
 use Rattle.grammar.specs.Sign.{Meaning, Valid, signText}
 use Rattle.token.specs.declared.Written.{Written}
 use Rattle.token.specs.Result.{done, onDone}
-use Rattle.token.proofs.Answers.{Answers, answers-refused}
+use Rattle.writer.proofs.Answers.{Answers, answers-refused}
 use Rattle.writer.specs.Arrays.{meaningIn}
 use Rattle.moving.specs.declared.writing.Moved.{Moved}
 use Rattle.moving.specs.Moves.{stays, allOf, xsOf, ysOf, movedMeaning, movedSign}

@@ -98,7 +98,7 @@ fn spatial_careful(set: Charset, s: &[u8], at: usize) -> Placed
     requires { ⌜ at + 256 ≤ 2 ^ 64 ⌝ }
     ensures { λ r. ⌜ r ≡ placedAt (spatial (tokens set)) (now (s .entry)) at ⌝ }
 {
-    let size = token::writing::symbol_size(set);
+    let size = token::reading::symbol_size(set);
     point_then(
         set,
         s,

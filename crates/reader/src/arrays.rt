@@ -56,7 +56,7 @@ fn prefix_into(set: Charset, s: &[u8], at: usize, codes: &mut [u16; 32]) -> Coun
 {
     let mut n: usize = 0;
     let mut i = at;
-    let size = token::writing::symbol_size(set);
+    let size = token::reading::symbol_size(set);
     while i < s.len() {
         match part::reading::prefix_symbol_at(set, s, i) {
             Token::Value(code) => {

@@ -1,2 +1,4 @@
+pub mod Plain
+pub mod Demand3
 pub mod Running
 pub mod Whole

@@ -16,8 +16,8 @@ use Rattle.entries.specs.Entries.{entriesOf}
 use Rattle.dictionary.specs.declared.Opened.{Opened}
 use Rattle.dictionary.specs.Opening.{opening, openedAs, opened}
 use Rattle.dictionary.specs.Narrowing.{narrowed}
-use Rattle.dictionary.specs.Demand3.{Opens, runOn, meeting}
-use Rattle.dictionary.proofs.Demand3.{Start, start-of, opens-done, demand3}
+use Rattle.runs.specs.Demand3.{Opens, runOn, meeting}
+use Rattle.runs.proofs.Demand3.{Start, start-of, opens-done, demand3}
 use Rattle.runs.specs.Runs.{endedAs, notRun, leaving, ranAs, ranOn}
 
 abbrev refusedAs : ℕ → ℕ → Narrowed

@@ -11,7 +11,7 @@ use Rattle.run.specs.declared.Narrowed.{Narrowed}
 use Rattle.run.specs.Narrowing.{filled}
 use Rattle.run.specs.Run.{Ended, total}
 use Rattle.dictionary.specs.Opening.{opening}
-use Rattle.dictionary.specs.Demand3.{meeting}
+use Rattle.runs.specs.Demand3.{meeting}
 
 -- how a run is answered: the entries left and all the dropped counts, and the list memory
 unfoldable pub endedAs : Ended → Narrowed × List ℕ

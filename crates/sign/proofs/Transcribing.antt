@@ -18,7 +18,7 @@ use Rattle.grammar.specs.SignLaws.{readSign}
 use Rattle.grammar.proofs.SignLaws.{sign-laws}
 use Rattle.token.specs.declared.Written.{Written}
 use Rattle.token.specs.Result.{refusal, done, ofOutcome, onDone}
-use Rattle.token.proofs.Answers.{Answers, answers-refused}
+use Rattle.writer.proofs.Answers.{Answers, answers-refused}
 use Rattle.reader.specs.declared.arrays.Head.{Head}
 use Rattle.reader.specs.Signs.{withinLimits, signOf, padded}
 use Rattle.reader.specs.Inner.{ReadInto}

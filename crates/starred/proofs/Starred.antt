@@ -7,7 +7,7 @@ use lib.ListN.{length}
 use Rattle.charset.specs.declared.Charset.the-variants.{Fsw}
 use Rattle.charset.specs.Bytes.{digitOf, markerOf}
 use Rattle.token.specs.Result.{done}
-use Rattle.token.specs.Codes.{codeRead, codeText}
+use Rattle.symbol.specs.Codes.{codeRead, codeText}
 use Rattle.reader.specs.Signs.{signOf}
 use Rattle.query.specs.Reading.{queryOf}
 use Rattle.matching.specs.Meets.{satisfies, prefixHolds, serves, judged, witnessesOf, verdictOf}

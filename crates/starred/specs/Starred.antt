@@ -9,7 +9,7 @@ use Rattle.charset.specs.declared.Charset.the-variants.{Fsw, Swu}
 use Rattle.charset.specs.Bytes.{utf8}
 use Rattle.grammar.specs.Sign.{signText}
 use Rattle.token.specs.Result.{refusal, done}
-use Rattle.token.specs.Codes.{codeRead, codeText}
+use Rattle.symbol.specs.Codes.{codeRead, codeText}
 use Rattle.reader.specs.Signs.{signOf}
 use Rattle.query.specs.Reading.{queryOf}
 use Rattle.matching.specs.Meets.{unmet, met, answered}

@@ -7,7 +7,7 @@ use native.Mathlib.Omega.{arith}
 use lib.ListN.{length, getD, take, length-append}
 use lib.Seq.{take-suc, take-all, length-take-le}
 use Rattle.token.specs.Wrote.{Wrote}
-use Rattle.token.proofs.Writes.{wrote-more, wrote-as}
+use Rattle.writer.proofs.Writes.{wrote-more, wrote-as}
 use Rattle.text.specs.Text.{decimal, keyLine, entryKey, entryLines}
 use Rattle.text.proofs.Decimal.{decimal-short}
 

@@ -3,7 +3,7 @@ ghost use Prim.Native.Nat.{_+_, _*_, _≤_};
 ghost use lib.ListN.{length};
 ghost use Rattle.token.specs.Wrote.{Wrote};
 ghost use Rattle.text.specs.Text.{decimal, keyLine, entryLines};
-use token::writing::put_byte;
+use writer::tokens::put_byte;
 
 fn put_bytes(out: &mut [u8], at: usize, s: &[u8]) -> usize
     requires { ⌜ at + length (now s) ≤ length (now out) ⌝ }

@@ -4,8 +4,3 @@ pub mod Digits
 pub mod Keys
 pub mod Choices
 pub mod Ends
-pub mod CodeReads
-pub mod Writes
-pub mod Answers
-pub mod Codes
-pub mod CodeLaws

@@ -1,7 +1,6 @@
 pub mod Refusal
 pub mod Result
 pub mod Token
+pub mod Symbol
 pub mod Ends
-pub mod Codes
-pub mod CodeLaws
 pub mod Wrote

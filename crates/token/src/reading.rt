@@ -5,10 +5,8 @@ ghost use Prim.Native.Nat.{_+_, _-_, _^_, _≤_, min};
 ghost use Rattle.format.specs.Numeral.{Weights};
 ghost use Rattle.charset.specs.Bytes.{digitOf, digit as oneDigit, digits, byte, markerOf, letter, scalarOf, character};
 ghost use Rattle.charset.specs.Tokens.{key, null, nullOrKey, tokens};
-ghost use Rattle.token.specs.Codes.{codeRead};
 ghost use Rattle.token.specs.Token.{tokenAt};
 ghost use Rattle.token.specs.Ends.{leftOver};
-use super::Code;
 use super::refusal::DONE;
 use super::refusal::TEXT_SHORT;
 use super::refusal::TEXT_WRONG;
@@ -340,6 +338,16 @@ pub fn second_at(set: Charset, s: &[u8], at: usize) -> Token
     }
 }
 
+// The bytes of a symbol.
+pub fn symbol_size(set: Charset) -> usize
+    ensures { λ r. ⌜ r ≡ tokens set .symbolSize ⌝ }
+{
+    match set {
+        Charset::Fsw => 6,
+        Charset::Swu => 4,
+    }
+}
+
 // The bytes of a unit.
 fn unit(set: Charset) -> usize
     ensures { λ r. ⌜ r ≡ tokens set .unit ⌝ }
@@ -363,35 +371,4 @@ pub fn left_over(set: Charset, size: usize, at: usize) -> u8
         return TEXT_SHORT;
     }
     TEXT_WRONG
-}
-
-fn code_is(number: u8, place: usize, code: u16) -> Code
-    ensures { λ r. ⌜ r ≡ record { number = number; place = place; code = code } ⌝ }
-{
-    Code {
-        number: number,
-        place: place,
-        code: code,
-    }
-}
-
-// Reads the symbol of a text by itself.
-pub fn read_code(set: Charset, s: &[u8]) -> Code
-    ensures { λ r. ⌜ r ≡ codeRead set (now (s .entry)) ⌝ }
-{
-    match symbol_or_null_at(set, s, 0, 0x38b) {
-        Token::Value(code) => {
-            let size = super::writing::symbol_size(set);
-            let left = left_over(set, s.len(), size);
-            if left == TEXT_WRONG {
-                return code_is(TEXT_WRONG, size, 0);
-            }
-            if left == TEXT_SHORT {
-                return code_is(TEXT_SHORT, s.len(), 0);
-            }
-            code_is(DONE, 0, code)
-        }
-        Token::Wrong(p) => code_is(TEXT_WRONG, p, 0),
-        Token::Short => code_is(TEXT_SHORT, s.len(), 0),
-    }
 }

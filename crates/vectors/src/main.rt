@@ -17,18 +17,18 @@ fn line(text: &[u8], number: u8, place: usize, value: u64) {
 
 // A key: its code.
 fn key(text: &[u8]) {
-    let r = token::key_to_code(text);
+    let r = symbol::key_to_code(text);
     line(text, r.number, r.place, r.code as u64);
 }
 
 // A code: its key, and its SWU character as the key's code again.
 fn code(c: u64) {
     let mut out = [0u8; 6];
-    let r = token::code_to_key(c, &mut out);
+    let r = symbol::code_to_key(c, &mut out);
     line(&out, r.number, r.place, r.length as u64);
     let mut character = [0u8; 4];
-    token::code_to_char(c, &mut character);
-    let back = token::char_to_code(&character);
+    symbol::code_to_char(c, &mut character);
+    let back = symbol::char_to_code(&character);
     line(&character, back.number, back.place, back.code as u64);
 }
 

@@ -1,2 +1,5 @@
+pub mod Writes
+pub mod Answers
+pub mod Keys
 pub mod Upto
 pub mod SignWrites

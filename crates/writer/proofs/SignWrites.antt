@@ -11,9 +11,9 @@ use Rattle.charset.specs.Tokens.{tokens, lastWriting, lastLocation}
 use Rattle.grammar.specs.Sign.{Spatial, Meaning, Valid, point, prefixSymbol, spatial, ofSpatial, signText}
 use Rattle.grammar.specs.SignLaws.{headSize, spatialSize, prefixSize, signSize}
 use Rattle.grammar.proofs.SignSize.{sign-size}
-use Rattle.token.specs.Codes.{anySymbol}
+use Rattle.token.specs.Symbol.{anySymbol}
 use Rattle.token.specs.Wrote.{Wrote}
-use Rattle.token.proofs.Writes.{wrote-none, wrote-more, wrote-as}
+use Rattle.writer.proofs.Writes.{wrote-none, wrote-more, wrote-as}
 use Rattle.writer.specs.Arrays.{upto, prefixText, symbolsText}
 use Rattle.writer.proofs.Upto.{upto-length, upto-size, map-upto}
 

@@ -9,7 +9,7 @@ use native.Mathlib.Omega.{arith}
 use lib.ListN.{length, length-append}
 use Rattle.format.specs.Format.{Format, All, many}
 use Rattle.token.specs.Wrote.{Wrote}
-use Rattle.token.proofs.Writes.{wrote-none, wrote-more, wrote-as}
+use Rattle.writer.proofs.Writes.{wrote-none, wrote-more, wrote-as}
 use Rattle.writer.specs.Arrays.{upto}
 
 pub upto-length : {A : Type 0} (g : ℕ → A) (n : ℕ) → length (upto g n) ≡ n

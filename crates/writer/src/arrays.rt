@@ -43,8 +43,8 @@ fn put_point(set: Charset, out: &mut [u8], at: usize, x: u16, y: u16) -> usize
     requires { ⌜ (at + (tokens set .numberSize + tokens set .secondSize) ≤ length (now out)) × (Number x × Number y) ⌝ }
     ensures { λ r. ⌜ Wrote (now (out .entry)) (now (out .exit)) at r (point (tokens set) .write (x, y)) ⌝ }
 {
-    let next = token::writing::put_number(set, out, at, x);
-    token::writing::put_second(set, out, next, y)
+    let next = super::tokens::put_number(set, out, at, x);
+    super::tokens::put_second(set, out, next, y)
 }
 
 // A and the first n symbols of a prefix, or nothing where there are none.
@@ -55,10 +55,10 @@ fn put_prefix(set: Charset, out: &mut [u8], at: usize, prefix: &[u16; 32], n: us
     if n == 0 {
         return at;
     }
-    let mut next = token::writing::put_marker(set, out, at, 0);
+    let mut next = super::tokens::put_marker(set, out, at, 0);
     let mut i: usize = 0;
     while i < n {
-        next = token::writing::put_symbol(set, out, next, prefix[i]);
+        next = super::tokens::put_symbol(set, out, next, prefix[i]);
         i += 1;
     }
     next
@@ -69,7 +69,7 @@ fn put_spatial(set: Charset, out: &mut [u8], at: usize, code: u16, x: u16, y: u1
     requires { ⌜ (at + spatialSize set ≤ length (now out)) × ValidSymbol (record { code = code; x = x; y = y }) ⌝ }
     ensures { λ r. ⌜ Wrote (now (out .entry)) (now (out .exit)) at r (symbolsText set (record { code = code; x = x; y = y } ∷ [])) ⌝ }
 {
-    let next = token::writing::put_symbol(set, out, at, code);
+    let next = super::tokens::put_symbol(set, out, at, code);
     put_point(set, out, next, x, y)
 }
 
@@ -122,7 +122,7 @@ pub fn write_sign(
         };
     }
     let a = put_prefix(set, out, 0, prefix, p);
-    let b = token::writing::put_marker(set, out, a, marker);
+    let b = super::tokens::put_marker(set, out, a, marker);
     let c = put_point(set, out, b, x, y);
     let end = put_symbols(set, out, c, codes, xs, ys, n);
     Written {

@@ -1,3 +1,4 @@
-// Writing a sign that lies in arrays.
+// Writing a token, and writing a sign that lies in arrays.
 
 pub mod arrays;
+pub mod tokens;

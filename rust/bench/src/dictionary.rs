@@ -52,14 +52,14 @@ impl Random {
 }
 
 /// What is measured on: a dictionary, where its lines lie, and sizes for all symbols.
-pub struct Book {
+pub struct Dictionary {
     pub text: Vec<u8>,
     lines: Vec<(usize, usize)>,
     pub sizes: Vec<u8>,
 }
 
-impl Book {
-    pub fn new(charset: Charset, count: usize) -> Book {
+impl Dictionary {
+    pub fn new(charset: Charset, count: usize) -> Dictionary {
         let mut random = Random(count as u64);
         let mut text = vec![];
         let mut lines = vec![];
@@ -76,7 +76,7 @@ impl Book {
         let sizes = (0..SIZE_LIST_LENGTH)
             .map(|_| random.between(5, 40) as u8)
             .collect();
-        Book { text, lines, sizes }
+        Dictionary { text, lines, sizes }
     }
 
     pub fn count(&self) -> usize {

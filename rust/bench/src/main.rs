@@ -6,7 +6,7 @@
 mod dictionary;
 mod entries;
 
-use dictionary::Book;
+use dictionary::Dictionary;
 use entries::*;
 use reference::Charset;
 use std::time::{Duration, Instant};
@@ -37,13 +37,13 @@ fn main() {
     println!("| {set:?} entry | lines | library ns/line | reference ns/line | ratio |");
     println!("|---|--:|--:|--:|--:|");
     for count in LINE_COUNTS {
-        let book = Book::new(set, count);
-        rows(&Bench { book, time }, set);
+        let dictionary = Dictionary::new(set, count);
+        rows(&Bench { dictionary, time }, set);
     }
 }
 
 fn rows(bench: &Bench, set: Charset) {
-    let b = &bench.book;
+    let b = &bench.dictionary;
     bench.row("read", || read_library(b, set), || read_reference(b, set));
     bench.row(
         "transcribe",
@@ -72,7 +72,7 @@ fn rows(bench: &Bench, set: Charset) {
 }
 
 struct Bench {
-    book: Book,
+    dictionary: Dictionary,
     /// How long the passes of one row may take.
     time: Duration,
 }
@@ -90,7 +90,7 @@ impl Bench {
             best = [best[0].min(library_time), best[1].min(reference_time)];
             rounds += 1;
         }
-        let lines = self.book.count();
+        let lines = self.dictionary.count();
         let [library, reference] = best.map(|time| time.as_nanos() as f64 / lines as f64);
         let ratio = library / reference;
         println!("| {name} | {lines} | {library:.1} | {reference:.1} | {ratio:.2} |");

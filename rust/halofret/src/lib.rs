@@ -259,15 +259,15 @@ pub fn fetch<'a>(first: &'a [u8], second: &'a [u8], number: usize) -> Result<Fet
             &mut answer,
         )
     };
-    let [number, book, start, length] = answer;
+    let [number, which, start, length] = answer;
     // This answer has no place: every refusal of fetching has place 0.
     Refusal::check(&[number, 0])?;
-    let in_second = book == 1;
-    let book = if in_second { second } else { first };
+    let in_second = which == 1;
+    let holder = if in_second { second } else { first };
     let start = start as usize;
     Ok(Fetched {
         in_second,
         start,
-        line: &book[start..start + length as usize],
+        line: &holder[start..start + length as usize],
     })
 }

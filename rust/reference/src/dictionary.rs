@@ -147,15 +147,15 @@ pub fn fetch<'a>(first: &'a [u8], second: &'a [u8], number: usize) -> Answer<Fet
         return refuse(16, 0);
     }
     let beyond = number > in_first;
-    let (book, before) = match beyond {
+    let (holder, before) = match beyond {
         false => (first, number - 1),
         true => (second, number - 1 - in_first),
     };
     let mut start = 0;
-    for line in lines_of(book).take(before) {
+    for line in lines_of(holder).take(before) {
         start += line.len() + 1;
     }
-    let line = lines_of(&book[start..]).next().unwrap_or_default();
+    let line = lines_of(&holder[start..]).next().unwrap_or_default();
     Ok(Fetched {
         in_second: beyond,
         start,

@@ -130,11 +130,11 @@ macro_rules! side {
                 match $of::fetch(first, second, number) {
                     Err(refusal) => [refusal.number.into(), refusal.place as u64, 0, 0],
                     Ok(found) => {
-                        let book = if found.in_second { second } else { first };
+                        let holder = if found.in_second { second } else { first };
                         let end = found.start + found.line.len();
-                        assert_eq!(found.line, &book[found.start..end]);
-                        let book = found.in_second.into();
-                        [0, book, found.start as u64, found.line.len() as u64]
+                        assert_eq!(found.line, &holder[found.start..end]);
+                        let which = found.in_second.into();
+                        [0, which, found.start as u64, found.line.len() as u64]
                     }
                 }
             }

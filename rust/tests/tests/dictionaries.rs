@@ -235,9 +235,9 @@ fn fetching_from_the_most_lines() {
     let over = vec![10; MOST_LINES + 1];
     let [few, _] = dictionary(&mut random, 20);
     let unended = b"M500x500";
-    let books: [&[u8]; 5] = [&most, &over, &few, unended, b""];
-    for first in books {
-        for second in books {
+    let dictionaries: [&[u8]; 5] = [&most, &over, &few, unended, b""];
+    for first in dictionaries {
+        for second in dictionaries {
             for number in [0, 1, 20, 21, 65_535, 65_536, 65_555, 131_070, 131_071] {
                 Both.fetch(first, second, number);
             }

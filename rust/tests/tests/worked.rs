@@ -279,26 +279,32 @@ fn shifting() {
     );
 }
 
-const BOOK: &[u8] = b"M500x500\nM510x515S10000490x485S20500500x495\nM515x515S20500500x500\n";
+const DICTIONARY: &[u8] = b"M500x500\nM510x515S10000490x485S20500500x495\nM515x515S20500500x500\n";
 
 #[test]
 fn opening_and_narrowing() {
     let mut list = [7; 5];
-    assert_eq!(Both.open(Fsw, BOOK, &mut list), [0, 0, 3]);
+    assert_eq!(Both.open(Fsw, DICTIONARY, &mut list), [0, 0, 3]);
     assert_eq!(list, [1, 2, 3, 7, 7]);
     assert_eq!(
-        Both.narrow(Fsw, BOOK, &mut list, 3, b"QS20500"),
+        Both.narrow(Fsw, DICTIONARY, &mut list, 3, b"QS20500"),
         [0, 0, 2, 1]
     );
     assert_eq!(list, [2, 3, 0, 7, 7]);
-    assert_eq!(Both.narrow(Fsw, BOOK, &mut list, 2, b"Qx"), [1, 1, 0, 0]);
     assert_eq!(
-        Both.narrow(Fsw, BOOK, &mut list, 2, b"QS10000"),
+        Both.narrow(Fsw, DICTIONARY, &mut list, 2, b"Qx"),
+        [1, 1, 0, 0]
+    );
+    assert_eq!(
+        Both.narrow(Fsw, DICTIONARY, &mut list, 2, b"QS10000"),
         [0, 0, 1, 1]
     );
     assert_eq!(list, [2, 0, 0, 7, 7]);
-    assert_eq!(Both.narrow(Fsw, BOOK, &mut list, 0, b"Q"), [0, 0, 0, 0]);
-    assert_eq!(Both.open(Fsw, BOOK, &mut list[..2]), [6, 3, 0]);
+    assert_eq!(
+        Both.narrow(Fsw, DICTIONARY, &mut list, 0, b"Q"),
+        [0, 0, 0, 0]
+    );
+    assert_eq!(Both.open(Fsw, DICTIONARY, &mut list[..2]), [6, 3, 0]);
     assert_eq!(Both.open(Fsw, b"", &mut []), [0, 0, 0]);
     assert_eq!(Both.open(Fsw, b"\n", &mut list), [13, 1, 0]);
     assert_eq!(Both.open(Fsw, b"M500x500\r\n", &mut list), [13, 1, 0]);
@@ -318,9 +324,9 @@ fn narrowing_refuses_in_order() {
     assert_eq!(narrow(b"x\n", &[], 1, "Q"), (11, 0));
     assert_eq!(narrow(b"x\n", &[1], 1, "Q"), (13, 1));
     for list in [[0, 1], [1, 1], [2, 1], [1, 4]] {
-        assert_eq!(narrow(BOOK, &list, 2, "Q"), (11, 0), "{list:?}");
+        assert_eq!(narrow(DICTIONARY, &list, 2, "Q"), (11, 0), "{list:?}");
     }
-    assert_eq!(narrow(BOOK, &[1, 9], 1, "Q"), (0, 0));
+    assert_eq!(narrow(DICTIONARY, &[1, 9], 1, "Q"), (0, 0));
     // The place is the line, not the place in the list; lines not listed are not read.
     let bad_third = b"M500x500\nx\nx\nM500x500\n";
     assert_eq!(narrow(bad_third, &[1, 3, 4], 3, "Q"), (13, 3));

@@ -1,7 +1,7 @@
 use native.Mathlib.Omega.{arith}
 use lib.ListN.{length}
 use borrow.Author.Needs.{needs}
-use Rattle.token.proofs.Writes.{wrote-more}
+use Rattle.writer.proofs.Writes.{wrote-more}
 use Rattle.text.proofs.TextWrites.{line-short}
 use Rattle.report.specs.Report.{answerKey, entriesKey, keptKey, foundText}
 use Rattle.report.proofs.put_found.Statement.{statement}

@@ -1,6 +1,6 @@
 use native.Mathlib.Omega.{arith}
 use borrow.Author.Needs.{needs}
-use Rattle.token.proofs.Writes.{wrote-more}
+use Rattle.writer.proofs.Writes.{wrote-more}
 use Rattle.text.proofs.TextWrites.{line-short}
 use Rattle.report.specs.Report.{answerKey, placeKey, refusalText}
 use Rattle.report.proofs.put_refusal.Statement.{statement}

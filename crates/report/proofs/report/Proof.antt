@@ -3,7 +3,7 @@ use mathlib.Core.Logic.{⊎-elim}
 use native.Mathlib.Omega.{arith}
 use lib.Seq.{length-take-le}
 use borrow.Author.Needs.{needs}
-use Rattle.token.proofs.Writes.{wrote-as, wrote-all}
+use Rattle.writer.proofs.Writes.{wrote-as, wrote-all}
 use Rattle.report.proofs.Splitting.{Split, line-ended, no-dictionary, part-is, same-text}
 use Rattle.report.proofs.report.Statement.{statement}
 use Rattle.report.proofs.report.Tie as tie

@@ -3,7 +3,7 @@ use mathlib.Core.Path.{sym}
 use native.Mathlib.Omega.{arith}
 use lib.Seq.{length-take-le}
 use borrow.Author.Needs.{needs}
-use Rattle.token.proofs.Writes.{wrote-as}
+use Rattle.writer.proofs.Writes.{wrote-as}
 use Rattle.report.proofs.Searching.{too-large, few-lines, not-opened, counts, take-few, not-narrowed, was-narrowed}
 use Rattle.report.proofs.search.Statement.{statement}
 use Rattle.report.proofs.search.Tie as tie

@@ -4,8 +4,8 @@ use native.Mathlib.Omega.{arith}
 use borrow.Author.Needs.{needs}
 use borrow.Fn.Kinds.{In}
 use borrow.Fn.PlainCycle.{Measures, is, falls, and}
-use Rattle.token.proofs.Writes.{wrote-more, wrote-as}
-use Rattle.token.proofs.writing.put_byte.Reads as put-byte
+use Rattle.writer.proofs.Writes.{wrote-more, wrote-as}
+use Rattle.writer.proofs.tokens.put_byte.Reads as put-byte
 use Rattle.text.proofs.Decimal.{tenth-less, decimal-one, decimal-more, decimal-longer, decimal-some}
 use Rattle.text.proofs.line.put_decimal.Reads as put-decimal
 use Rattle.text.proofs.line.put_decimal.Kinds as kinds

@@ -2,7 +2,7 @@ use Prim.Native.Nat.{_-_, _≤_}
 use lib.ListN.{length, take}
 use native.Mathlib.Omega.{arith}
 use Rattle.token.specs.Wrote.{Wrote}
-use Rattle.token.proofs.Writes.{wrote-none}
+use Rattle.writer.proofs.Writes.{wrote-none}
 use Rattle.text.proofs.TextWrites.{bytes-room, bytes-more, bytes-all}
 use Rattle.text.proofs.line.put_bytes.Statement.{statement}
 use Rattle.text.proofs.line.put_bytes.Tie as tie

@@ -3,7 +3,7 @@ use mathlib.Core.Path.{_≡_, refl}
 use lib.ListN.{length, take}
 use native.Mathlib.Omega.{arith}
 use Rattle.token.specs.Wrote.{Wrote}
-use Rattle.token.proofs.Writes.{wrote-none}
+use Rattle.writer.proofs.Writes.{wrote-none}
 use Rattle.text.specs.Text.{entryKey, entryLines}
 use Rattle.text.proofs.TextWrites.{entry-short, entries-more, entries-all}
 use Rattle.text.proofs.line.put_entries.Statement.{statement}

@@ -1,6 +1,6 @@
 use native.Mathlib.Omega.{arith}
 use borrow.Author.Needs.{needs}
-use Rattle.token.proofs.Writes.{wrote-more}
+use Rattle.writer.proofs.Writes.{wrote-more}
 use Rattle.text.specs.Text.{keyLine}
 use Rattle.text.proofs.TextWrites.{line-length}
 use Rattle.text.proofs.line.put_line.Statement.{statement}

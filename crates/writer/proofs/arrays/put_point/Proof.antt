@@ -1,5 +1,5 @@
 use borrow.Author.Needs.{needs}
-use Rattle.token.proofs.Writes.{wrote-more}
+use Rattle.writer.proofs.Writes.{wrote-more}
 use Rattle.writer.proofs.SignWrites.{number-size}
 use Rattle.writer.proofs.arrays.put_point.Statement.{statement}
 use Rattle.writer.proofs.arrays.put_point.Tie as tie

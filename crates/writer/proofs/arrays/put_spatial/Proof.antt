@@ -1,5 +1,5 @@
 use borrow.Author.Needs.{needs}
-use Rattle.token.proofs.Codes.{symbol-length}
+use Rattle.writer.proofs.Keys.{symbol-length}
 use Rattle.writer.proofs.SignWrites.{spatial-put}
 use Rattle.writer.proofs.arrays.put_spatial.Statement.{statement}
 use Rattle.writer.proofs.arrays.put_spatial.Tie as tie

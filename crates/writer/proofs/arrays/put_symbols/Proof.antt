@@ -2,7 +2,7 @@ use Prim.Native.Nat.{_-_}
 use native.Mathlib.Omega.{arith}
 use Rattle.charset.specs.Tokens.{tokens}
 use Rattle.grammar.specs.Sign.{ValidSymbol, spatial, ofSpatial}
-use Rattle.token.proofs.Writes.{wrote-as}
+use Rattle.writer.proofs.Writes.{wrote-as}
 use Rattle.writer.specs.Arrays.{symbolAt}
 use Rattle.writer.proofs.Upto.{all-upto, Putting, putting-none, putting-more, putting-all, putting-room}
 use Rattle.writer.proofs.SignWrites.{spatial-size, symbols-text}

@@ -1,7 +1,7 @@
 use borrow.Author.Needs.{needs}
 use mathlib.Core.Path.{refl, _∙_}
 use native.Mathlib.Omega.{arith}
-use Rattle.token.proofs.Answers.{answers-short, answers-done}
+use Rattle.writer.proofs.Answers.{answers-short, answers-done}
 use Rattle.writer.specs.Arrays.{at, meaningIn}
 use Rattle.writer.proofs.Upto.{upto-length}
 use Rattle.writer.proofs.SignWrites.{marker-size, point-size, prefix-size, sign-length, sign-put}

@@ -1,0 +1,78 @@
+-- Demand 3 (document 01, "The dictionary and its list"): one claim about every run of narrowing calls on a dictionary that opens.
+-- It is about the definitions that the contracts cite: `open` cites `opening`, `opened` and `output`, `narrow` cites `narrowed`,
+-- `query::read` cites `queryOf` and `readingOf`, and `verdict::verdict` cites `verdictIn`.
+use Prim.Native.Nat.{ℕ, _+_}
+use mathlib.Core.Path.{_≡_}
+use mathlib.Core.List.{List, [], _∷_, map, Perm}
+use mathlib.Core.Bool.{Bool, true, _&&_}
+use lib.ListN.{length, drop}
+use Rattle.charset.specs.declared.Charset.{Charset}
+use Rattle.token.specs.Result.{Result, refusal, done, output}
+use Rattle.sign.specs.Transcription.{otherSet, transcription}
+use Rattle.query.specs.Reading.{queryOf, readingOf}
+use Rattle.verdict.specs.Verdict.{verdictIn}
+use Rattle.lines.specs.Lines.{lines, lineOf, bytesOf}
+use Rattle.run.specs.Narrowing.{keep, rising, filled}
+use Rattle.run.specs.Run.{Ended, run, total, told}
+use Rattle.entries.specs.Entries.{isDone, entriesOf}
+use Rattle.dictionary.specs.Opening.{opening, opened}
+use Rattle.dictionary.specs.Narrowing.{narrowed}
+
+-- the dictionary opens into this list memory
+abbrev pub Opens : Charset → List ℕ → List ℕ → Type 0
+Opens set dict list = opened list (opening set dict) .number ≡ 0
+
+-- The run: the first call takes the list memory that opening left and the line count that it answered.
+abbrev pub runOn : Charset → List ℕ → List ℕ → List (List ℕ) → Ended
+runOn set dict list queries = run (narrowed set dict) queries (output list (opening set dict)) (opened list (opening set dict) .lines)
+
+-- a query whose text gives none of the query refusals
+abbrev pub isAccepted : List ℕ → Bool
+isAccepted query = isDone (queryOf query)
+
+-- a text meets each of the queries
+unfoldable pub meetsEach : Charset → List (List ℕ) → List ℕ → Bool
+meetsEach set [] text = true
+meetsEach set (query ∷ queries) text = verdictIn set query text .met && meetsEach set queries text
+
+-- the entries that meet all the accepted queries, from the dictionary and the queries alone
+unfoldable pub meeting : Charset → List ℕ → List (List ℕ) → List ℕ
+meeting set dict queries = keep (λ e. meetsEach set (keep isAccepted queries) (lineOf dict e)) (entriesOf dict)
+
+-- the number and place with which the query itself is refused, zeros where it is accepted
+abbrev pub ownRefusal : List ℕ → ℕ × ℕ
+ownRefusal query = (readingOf (queryOf query) .number, readingOf (queryOf query) .place)
+
+abbrev pub textOf : Result (List ℕ) → List ℕ
+textOf (refusal number place) = []
+textOf (done text) = text
+
+-- the rewritten dictionary: each line transcribed, with its byte 10
+unfoldable pub rewritten : Charset → List ℕ → List ℕ
+rewritten set dict = bytesOf (map (λ line. textOf (transcription set line)) (lines dict))
+
+-- For every dictionary that opens into a list memory, and all queries in order:
+pub record Demand3 : Type 0 where
+  -- the list memory after the run: the entries that meet all the accepted queries, zeros to the line count, then what was there before
+  pub ending : (set : Charset) (dict list : List ℕ) → Opens set dict list → (queries : List (List ℕ))
+      → runOn set dict list queries .list ≡ filled (length (lines dict)) (meeting set dict queries) (drop (length (lines dict)) list)
+  -- those entries rise in 1 to the line count
+  pub rises : (set : Charset) (dict : List ℕ) (queries : List (List ℕ)) → rising (length (lines dict)) (meeting set dict queries) ≡ true
+  -- their number is the count for a next call
+  pub counting : (set : Charset) (dict list : List ℕ) → Opens set dict list → (queries : List (List ℕ))
+      → runOn set dict list queries .count ≡ length (meeting set dict queries)
+  -- the dropped counts and the entries left add up to the line count
+  pub adding : (set : Charset) (dict list : List ℕ) → Opens set dict list → (queries : List (List ℕ))
+      → total (runOn set dict list queries .answers) + length (meeting set dict queries) ≡ length (lines dict)
+  -- each call answers the number and place of its query's own refusal, and nothing else is refused
+  pub telling : (set : Charset) (dict list : List ℕ) → Opens set dict list → (queries : List (List ℕ))
+      → told queries (runOn set dict list queries .answers) ≡ map (λ query. (query, ownRefusal query)) queries
+  -- every reordering leaves the same list memory and the same total, and tells each query the same number and place
+  pub reordering : (set : Charset) (dict list : List ℕ) → Opens set dict list → (queries reordered : List (List ℕ)) → Perm queries reordered
+      → (runOn set dict list queries .list ≡ runOn set dict list reordered .list)
+      × (total (runOn set dict list queries .answers) ≡ total (runOn set dict list reordered .answers))
+      × Perm (told queries (runOn set dict list queries .answers)) (told reordered (runOn set dict list reordered .answers))
+  -- the rewritten dictionary opens into equal list memory, and the same queries in the same order give the same answer at every
+  -- call and the same list memory
+  pub rewriting : (set : Charset) (dict list : List ℕ) → Opens set dict list → (queries : List (List ℕ))
+      → Opens (otherSet set) (rewritten set dict) list × (runOn (otherSet set) (rewritten set dict) list queries ≡ runOn set dict list queries)

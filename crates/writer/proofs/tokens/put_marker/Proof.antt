@@ -1,0 +1,51 @@
+use borrow.Author.Needs.{needs}
+use mathlib.Core.Path.{ap}
+use Rattle.charset.specs.Tokens.{tokens}
+use Rattle.writer.proofs.Writes.{wrote-same}
+use Rattle.writer.proofs.tokens.put_marker.Statement.{statement}
+use Rattle.writer.proofs.tokens.put_marker.Tie as tie
+
+enum-told : tie.Need-enum-told
+enum-told c = search needs
+
+marker-byte-requires : tie.Need-marker-byte-requires
+marker-byte-requires c κs = search needs
+
+put-byte-requires : tie.Need-put-byte-requires
+put-byte-requires c κs = let e = ap (λ s. tokens s .markerSize) (c .before .before .enum-told .given .1) in search needs
+
+enum-told-2 : tie.Need-enum-told-2
+enum-told-2 c = search needs
+
+add-put-character : tie.Need-add-put-character
+add-put-character c = search needs
+
+put-character-requires : tie.Need-put-character-requires
+put-character-requires c κs = let e = ap (λ s. tokens s .markerSize) (c .before .enum-told2 .given .1) in search needs
+
+same-length : tie.Need-same-length
+same-length c = search needs
+
+returns : tie.Need-returns
+returns c = rw (c .before .before .before .before .before .enum-told .given .1) (wrote-same (c .before .before .put-byte .ensures) (c .before .before .before .marker-byte .ensures))
+
+same-length-2 : tie.Need-same-length-2
+same-length-2 c = search needs
+
+returns-2 : tie.Need-returns-2
+returns-2 c = rw (c .before .before .before .before .enum-told2 .given .1) (c .before .before .put-character .ensures)
+
+pub put-marker-spec : {M : Type 1} → statement M
+put-marker-spec =
+    tie.close
+    (tie.spec
+    enum-told
+    marker-byte-requires
+    put-byte-requires
+    enum-told-2
+    add-put-character
+    put-character-requires
+    same-length
+    returns
+    same-length-2
+    returns-2)

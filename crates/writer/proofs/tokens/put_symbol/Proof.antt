@@ -1,0 +1,46 @@
+use borrow.Author.Needs.{needs}
+use mathlib.Core.Path.{ap}
+use Rattle.charset.specs.Tokens.{tokens}
+use Rattle.writer.proofs.tokens.put_symbol.Statement.{statement}
+use Rattle.writer.proofs.tokens.put_symbol.Tie as tie
+
+enum-told : tie.Need-enum-told
+enum-told c = search needs
+
+put-key-requires : tie.Need-put-key-requires
+put-key-requires c κs = let e = ap (λ s. tokens s .symbolSize) (c .before .enum-told .given .1) in search needs
+
+enum-told-2 : tie.Need-enum-told-2
+enum-told-2 c = search needs
+
+add-put-character : tie.Need-add-put-character
+add-put-character c = search needs
+
+put-character-requires : tie.Need-put-character-requires
+put-character-requires c κs = let e = ap (λ s. tokens s .symbolSize) (c .before .enum-told2 .given .1) in search needs
+
+same-length : tie.Need-same-length
+same-length c = search needs
+
+returns : tie.Need-returns
+returns c = rw (c .before .before .before .before .enum-told .given .1) (c .before .before .put-key .ensures)
+
+same-length-2 : tie.Need-same-length-2
+same-length-2 c = search needs
+
+returns-2 : tie.Need-returns-2
+returns-2 c = rw (c .before .before .before .before .enum-told2 .given .1) (c .before .before .put-character .ensures)
+
+pub put-symbol-spec : {M : Type 1} → statement M
+put-symbol-spec =
+    tie.close
+    (tie.spec
+    enum-told
+    put-key-requires
+    enum-told-2
+    add-put-character
+    put-character-requires
+    same-length
+    returns
+    same-length-2
+    returns-2)
