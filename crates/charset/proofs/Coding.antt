@@ -139,7 +139,7 @@ over-4096 : (n r t : ℕ) → r < 64 → t < 64 → (n * 4096 + r * 64 + t) / 40
 over-4096 n r t h k = omega arith
 
 -- the four bytes of a code point are those that it was read from
-utf8-of : (a b c d : ℕ) → a / 8 ≡ 30 → b / 64 ≡ 2 → c / 64 ≡ 2 → d / 64 ≡ 2
+pub utf8-of : (a b c d : ℕ) → a / 8 ≡ 30 → b / 64 ≡ 2 → c / 64 ≡ 2 → d / 64 ≡ 2
     → utf8 (a % 8 * 262144 + b % 64 * 4096 + c % 64 * 64 + d % 64) ≡ a ∷ b ∷ c ∷ d ∷ []
 utf8-of a b c d p q r t =
     let e₃ : a % 8 * 262144 + b % 64 * 4096 + c % 64 * 64 + d % 64 ≡ (a % 8 * 4096 + b % 64 * 64 + c % 64) * 64 + d % 64 = omega arith in

@@ -9,10 +9,10 @@ use native.Mathlib.Omega.{arith}
 use borrow.Author.Tests.{ltb-false}
 use Rattle.format.specs.Format.{Format, sequence}
 use Rattle.charset.specs.Bytes.{digitByte, digits, markerOf, markerByte, after}
-use Rattle.charset.specs.Tokens.{fsw, fswNumber, lastWriting, lastLocation, base, turn, key, keyOf}
+use Rattle.charset.specs.Tokens.{Tokens, fsw, fswNumber, lastLocation, base, turn, key, keyOf}
 use Rattle.charset.proofs.Coding.{by-test}
 use Rattle.charset.proofs.Keys.{parts-of-key}
-use Rattle.grammar.specs.Sign.{point, placed, prefixSymbol, head, spatial}
+use Rattle.grammar.specs.Sign.{point, placed, prefixSymbol, head}
 use Rattle.fast.specs.declared.fsw.Placed.{Placed}
 use Rattle.fast.specs.declared.fsw.Placed.the-variants.{At, Short}
 use Rattle.fast.specs.Fast.{digitIn, baseIn, turnIn, numberIn, codeIn, Spelled, SureValue, Sure, SureAfter}
@@ -28,7 +28,7 @@ short-at e = absurd (let z : _≡_ {A = ℕ} 0 1 = cc in omega arith)
 pub not-placed : {n : ℕ} {f : Format (ℕ × (ℕ × ℕ))} {s : List ℕ} {at : ℕ} → Sure n f s at Short
 not-placed = record { is = λ v x y e. short-at e }
 
-pub none-after : {s : List ℕ} {at value : ℕ} → SureAfter s at value Short
+pub none-after : {t : Tokens} {s : List ℕ} {at value : ℕ} → SureAfter t s at value Short
 none-after = record { is = λ v x y e. short-at e }
 
 -- what a code that is not 0 is made of
@@ -145,24 +145,34 @@ module _ (s : List ℕ) where
     bytes = byte-at at (markerByte m) h (marker-byte (getD s at 0) m e l u);
   }
 
-  pub point-sure : (at value x y : ℕ) → at + 7 ≤ length s → SureValue 3 fswNumber s at x → (x ≡ 0 → ⊥) → getD s (at + 3) 0 ≡ 120
-      → SureValue 3 fswNumber s (at + 4) y → (y ≡ 0 → ⊥) → SureAfter s at value (At value x y)
-  point-sure at value x y h p a e q b =
-      let j : Spelled 7 (point fsw) s at (x, y) =
-      spelled-then 3 4 fswNumber (λ n. fsw .second) at x y (p .is (omega (arith, a)))
-      (spelled-after 3 120 fswNumber (at + 3) (at + 4) y (omega arith) (omega arith) e (q .is (omega (arith, b)))) in
-      record { is = λ v z w k. (cc, subst (λ n. Spelled 7 (point fsw) s at n) (let f : x ≡ z = cc in let g : y ≡ w = cc in λ i. (f i, g i)) j) }
+  -- a coordinate, and a value with the coordinate after it, in either set
+  module _ (t : Tokens) where
+    abbrev pointSize : ℕ
+    pointSize = t .numberSize + t .secondSize
 
-  -- a value and the coordinate after it
-  placed-sure : (n : ℕ) (f : Format ℕ) (at value : ℕ) (r : Placed) → Spelled n f s at value → SureAfter s (at + n) value r → Sure (n + 7) (placed fsw f) s at r
-  placed-sure n f at value r p q = record {
-    is = λ v x y e.
-        let j = q .is v x y e in
-        spelled-then n 7 f (λ _. point fsw) at v (x, y) (subst (λ k. Spelled n f s at k) (sym (j .0)) p) (j .1);
-  }
+    pub point-sure : (at value x y : ℕ) → Spelled (t .numberSize) (t .number) s at x → Spelled (t .secondSize) (t .second) s (at + t .numberSize) y
+        → SureAfter t s at value (At value x y)
+    point-sure at value x y p q =
+        let j : Spelled pointSize (point t) s at (x, y) = spelled-then (t .numberSize) (t .secondSize) (t .number) (λ n. t .second) at x y p q in
+        record { is = λ v z w k. (cc, subst (λ n. Spelled pointSize (point t) s at n) (let f : x ≡ z = cc in let g : y ≡ w = cc in λ i. (f i, g i)) j) }
 
-  pub head-sure : (at m : ℕ) (r : Placed) → at < length s → m ≡ markerOf (getD s at 0) → 1 ≤ m → m ≤ 4 → SureAfter s (at + 1) m r → Sure 8 (head fsw) s at r
-  head-sure at m r h e l u = placed-sure 1 (fsw .marker 1 4) at m r (marker-spelled at m h e l u)
+    placed-spelled : (n : ℕ) (f : Format ℕ) (at value : ℕ) (r : Placed) → Spelled n f s at value → SureAfter t s (at + n) value r
+        → Sure (n + pointSize) (placed t f) s at r
+    placed-spelled n f at value r p q = record {
+      is = λ v x y e.
+          let j = q .is v x y e in
+          spelled-then n pointSize f (λ _. point t) at v (x, y) (subst (λ k. Spelled n f s at k) (sym (j .0)) p) (j .1);
+    }
 
-  pub spatial-sure : (at code : ℕ) (r : Placed) → SureValue 6 (fsw .symbol lastWriting) s at code → (code ≡ 0 → ⊥) → SureAfter s (at + 6) code r → Sure 13 (spatial fsw) s at r
-  spatial-sure at code r p a = placed-sure 6 (fsw .symbol lastWriting) at code r (p .is (omega (arith, a)))
+    pub placed-sure : (n : ℕ) (f : Format ℕ) (at value : ℕ) (r : Placed) → SureValue n f s at value → (value ≡ 0 → ⊥) → SureAfter t s (at + n) value r
+        → Sure (n + pointSize) (placed t f) s at r
+    placed-sure n f at value r p a = placed-spelled n f at value r (p .is (omega (arith, a)))
+
+  pub fsw-point-sure : (at value x y : ℕ) → at + 7 ≤ length s → SureValue 3 fswNumber s at x → (x ≡ 0 → ⊥) → getD s (at + 3) 0 ≡ 120
+      → SureValue 3 fswNumber s (at + 4) y → (y ≡ 0 → ⊥) → SureAfter fsw s at value (At value x y)
+  fsw-point-sure at value x y h p a e q b =
+      point-sure fsw at value x y (p .is (omega (arith, a)))
+      (spelled-after 3 120 fswNumber (at + 3) (at + 4) y (omega arith) (omega arith) e (q .is (omega (arith, b))))
+
+  pub fsw-head-sure : (at m : ℕ) (r : Placed) → at < length s → m ≡ markerOf (getD s at 0) → 1 ≤ m → m ≤ 4 → SureAfter fsw s (at + 1) m r → Sure 8 (head fsw) s at r
+  fsw-head-sure at m r h e l u = placed-spelled fsw 1 (fsw .marker 1 4) at m r (marker-spelled at m h e l u)

@@ -1,12 +1,12 @@
--- What a quick look at FSW computes and finds: sums over digits, in which a byte that is no digit counts 4096.
-use Prim.Native.Nat.{ℕ, _+_, _-_, _*_, _<_}
+-- What a quick look computes and finds. FSW: sums over digits, in which a byte that is no digit counts 4096.
+use Prim.Native.Nat.{ℕ, _+_, _-_, _*_, _≤_, _<_}
 use mathlib.Core.Path.{_≡_}
 use mathlib.Core.List.{List}
 use lib.Dec.{leb, ltb}
 use lib.ListN.{getD, take, drop}
 use Rattle.format.specs.Format.{Format, choose}
 use Rattle.charset.specs.Bytes.{digitOf}
-use Rattle.charset.specs.Tokens.{fsw}
+use Rattle.charset.specs.Tokens.{Tokens}
 use Rattle.grammar.specs.Sign.{point}
 use Rattle.fast.specs.declared.fsw.Placed.{Placed}
 use Rattle.fast.specs.declared.fsw.Placed.the-variants.{At}
@@ -45,5 +45,9 @@ pub record Sure (n : ℕ) (f : Format (ℕ × (ℕ × ℕ))) (s : List ℕ) (at 
   pub is : (v x y : ℕ) → r ≡ At v x y → Spelled n f s at (v, (x, y))
 
 -- the same of the coordinate after a value
-pub record SureAfter (s : List ℕ) (at value : ℕ) (r : Placed) : Type 0 where
-  pub is : (v x y : ℕ) → r ≡ At v x y → (v ≡ value) × Spelled 7 (point fsw) s at (x, y)
+pub record SureAfter (t : Tokens) (s : List ℕ) (at value : ℕ) (r : Placed) : Type 0 where
+  pub is : (v x y : ℕ) → r ≡ At v x y → (v ≡ value) × Spelled (t .numberSize + t .secondSize) (point t) s at (x, y)
+
+-- SWU: the six bits of a byte after a character's first; more than 63 says nothing
+pub record SureTail (b r : ℕ) : Type 0 where
+  pub is : r ≤ 63 → b ≡ 128 + r

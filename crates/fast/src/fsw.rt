@@ -122,7 +122,7 @@ pub fn prefix_symbol(s: &[u8], at: usize) -> u16
 // The coordinate that follows a code or a marker.
 fn point_after(s: &[u8], at: usize, value: u16) -> Placed
     requires { ⌜ at + 7 ≤ length (now s) ⌝ }
-    ensures { λ r. ⌜ SureAfter (now (s .entry)) at value r ⌝ }
+    ensures { λ r. ⌜ SureAfter fsw (now (s .entry)) at value r ⌝ }
 {
     let x = number(s, at);
     if x == 0 {

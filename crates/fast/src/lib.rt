@@ -1,3 +1,4 @@
 // A quick look at whole tokens, for the reader's speed.
 
 pub mod fsw;
+pub mod swu;

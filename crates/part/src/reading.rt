@@ -1,11 +1,12 @@
-// The parts of a sign at an offset of a text. FSW is first looked at quickly, a whole part at a time; where that finds
-// nothing, the careful reader says what is wrong and where.
+// The parts of a sign at an offset of a text. Each is first looked at quickly, as a whole; where that finds nothing, the
+// careful reader says what is wrong and where.
 ghost use mathlib.Core.Path.{_≡_};
 ghost use Prim.Native.Nat.{_+_, _^_, _≤_};
 ghost use Rattle.charset.specs.Tokens.{tokens};
 ghost use Rattle.grammar.specs.Sign.{head, spatial, prefixSymbol};
 ghost use Rattle.grammar.specs.SignLaws.{headSize, spatialSize};
 ghost use Rattle.token.specs.Token.{tokenAt};
+ghost use Rattle.fast.specs.Fast.{Sure, SureValue};
 ghost use Rattle.part.specs.Placed.{placedAt, pointAfter, pointThen};
 use charset::Charset;
 use fast::fsw::Placed;
@@ -107,65 +108,69 @@ fn spatial_careful(set: Charset, s: &[u8], at: usize) -> Placed
     )
 }
 
-fn fsw_head(s: &[u8], at: usize) -> Placed
+// What a quick look finds.
+fn quick_head(set: Charset, s: &[u8], at: usize) -> Placed
     requires { ⌜ at + 256 ≤ 2 ^ 64 ⌝ }
-    ensures { λ r. ⌜ r ≡ placedAt (head (tokens Charset.Fsw)) (now (s .entry)) at ⌝ }
+    ensures { λ r. ⌜ Sure (headSize set) (head (tokens set)) (now (s .entry)) at r ⌝ }
 {
-    let quick = fast::fsw::head_at(s, at);
-    let Placed::At(m, x, y) = quick else {
-        return head_careful(Charset::Fsw, s, at);
-    };
-    Placed::At(m, x, y)
-}
-
-fn fsw_spatial(s: &[u8], at: usize) -> Placed
-    requires { ⌜ at + 256 ≤ 2 ^ 64 ⌝ }
-    ensures { λ r. ⌜ r ≡ placedAt (spatial (tokens Charset.Fsw)) (now (s .entry)) at ⌝ }
-{
-    let quick = fast::fsw::spatial_at(s, at);
-    let Placed::At(code, x, y) = quick else {
-        return spatial_careful(Charset::Fsw, s, at);
-    };
-    Placed::At(code, x, y)
-}
-
-fn fsw_prefix_symbol(s: &[u8], at: usize) -> Token
-    requires { ⌜ at + 256 ≤ 2 ^ 64 ⌝ }
-    ensures { λ r. ⌜ r ≡ tokenAt (prefixSymbol (tokens Charset.Fsw)) (now (s .entry)) at ⌝ }
-{
-    let code = fast::fsw::prefix_symbol(s, at);
-    if code != 0 {
-        return Token::Value(code);
+    match set {
+        Charset::Fsw => fast::fsw::head_at(s, at),
+        Charset::Swu => fast::swu::head_at(s, at),
     }
-    token::reading::symbol_or_null_at(Charset::Fsw, s, at, 0x386)
 }
 
+fn quick_spatial(set: Charset, s: &[u8], at: usize) -> Placed
+    requires { ⌜ at + 256 ≤ 2 ^ 64 ⌝ }
+    ensures { λ r. ⌜ Sure (spatialSize set) (spatial (tokens set)) (now (s .entry)) at r ⌝ }
+{
+    match set {
+        Charset::Fsw => fast::fsw::spatial_at(s, at),
+        Charset::Swu => fast::swu::spatial_at(s, at),
+    }
+}
+
+fn quick_prefix_symbol(set: Charset, s: &[u8], at: usize) -> u16
+    requires { ⌜ at + 256 ≤ 2 ^ 64 ⌝ }
+    ensures { λ r. ⌜ SureValue (tokens set .symbolSize) (prefixSymbol (tokens set)) (now (s .entry)) at r ⌝ }
+{
+    match set {
+        Charset::Fsw => fast::fsw::prefix_symbol(s, at),
+        Charset::Swu => fast::swu::prefix_symbol(s, at),
+    }
+}
+
+// The marker and the maximum of a signbox.
 pub fn head_at(set: Charset, s: &[u8], at: usize) -> Placed
     requires { ⌜ at + 256 ≤ 2 ^ 64 ⌝ }
     ensures { λ r. ⌜ r ≡ placedAt (head (tokens set)) (now (s .entry)) at ⌝ }
 {
-    match set {
-        Charset::Fsw => fsw_head(s, at),
-        Charset::Swu => head_careful(Charset::Swu, s, at),
-    }
+    let quick = quick_head(set, s, at);
+    let Placed::At(m, x, y) = quick else {
+        return head_careful(set, s, at);
+    };
+    Placed::At(m, x, y)
 }
 
+// A writing symbol and its coordinate.
 pub fn spatial_at(set: Charset, s: &[u8], at: usize) -> Placed
     requires { ⌜ at + 256 ≤ 2 ^ 64 ⌝ }
     ensures { λ r. ⌜ r ≡ placedAt (spatial (tokens set)) (now (s .entry)) at ⌝ }
 {
-    match set {
-        Charset::Fsw => fsw_spatial(s, at),
-        Charset::Swu => spatial_careful(Charset::Swu, s, at),
-    }
+    let quick = quick_spatial(set, s, at);
+    let Placed::At(code, x, y) = quick else {
+        return spatial_careful(set, s, at);
+    };
+    Placed::At(code, x, y)
 }
 
+// A prefix symbol, by its code.
 pub fn prefix_symbol_at(set: Charset, s: &[u8], at: usize) -> Token
     requires { ⌜ at + 256 ≤ 2 ^ 64 ⌝ }
     ensures { λ r. ⌜ r ≡ tokenAt (prefixSymbol (tokens set)) (now (s .entry)) at ⌝ }
 {
-    match set {
-        Charset::Fsw => fsw_prefix_symbol(s, at),
-        Charset::Swu => token::reading::symbol_or_null_at(Charset::Swu, s, at, 0x386),
+    let code = quick_prefix_symbol(set, s, at);
+    if code != 0 {
+        return Token::Value(code);
     }
+    token::reading::symbol_or_null_at(set, s, at, 0x386)
 }

@@ -67,6 +67,12 @@ module _ (of : ℕ → ℕ) (to : ℕ → List ℕ) (lo hi : ℕ) (s : List ℕ)
     byte-within k h = located-is one s at _ (unit-within 1 (byteOf of) to lo hi s at d (omega arith) byte-is k h)
 
 -- one character
+pub four-at : (s : List ℕ) (at : ℕ) → at + 4 ≤ length s → take 4 (drop at s) ≡ getD s at 0 ∷ getD s (at + 1) 0 ∷ getD s (at + 2) 0 ∷ getD s (at + 3) 0 ∷ []
+four-at s at room = rw (more 3 at (at + 1) (omega arith) (omega arith), more 2 (at + 1) (at + 2) (omega arith) (omega arith), more 1 (at + 2) (at + 3) (omega arith) (omega arith), more 0 (at + 3) (at + 4) (omega arith) (omega arith))
+  where
+    more : (n i j : ℕ) → suc i ≡ j → i < length s → take (suc n) (drop i s) ≡ getD s i 0 ∷ take n (drop j s)
+    more n i j e h = rw (drop-cons s i 0 h, e)
+
 module _ (from lo hi : ℕ) (s : List ℕ) (at : ℕ) where
   abbrev code : Format ℕ
   code = unit 4 scalarOf utf8 (from + lo) (from + hi)
@@ -80,14 +86,8 @@ module _ (from lo hi : ℕ) (s : List ℕ) (at : ℕ) where
   character-cut h = code-is cut (unit-cut 4 scalarOf utf8 (from + lo) (from + hi) s at (omega arith) h)
 
   module _ (c : ℕ) (room : at + 4 ≤ length s) (e : c ≡ scalarOf (getD s at 0 ∷ getD s (at + 1) 0 ∷ getD s (at + 2) 0 ∷ getD s (at + 3) 0 ∷ [])) where
-    four : take 4 (drop at s) ≡ getD s at 0 ∷ getD s (at + 1) 0 ∷ getD s (at + 2) 0 ∷ getD s (at + 3) 0 ∷ []
-    four = rw (more 3 at (at + 1) (omega arith) (omega arith), more 2 (at + 1) (at + 2) (omega arith) (omega arith), more 1 (at + 2) (at + 3) (omega arith) (omega arith), more 0 (at + 3) (at + 4) (omega arith) (omega arith))
-      where
-        more : (n i j : ℕ) → suc i ≡ j → i < length s → take (suc n) (drop i s) ≡ getD s i 0 ∷ take n (drop j s)
-        more n i j e h = rw (drop-cons s i 0 h, e)
-
     scalar-is : scalarOf (take 4 (drop at s)) ≡ c
-    scalar-is = ap scalarOf four ∙ sym e
+    scalar-is = ap scalarOf (four-at s at room) ∙ sym e
 
     pub character-below : c < from + lo → Wrong at ≡ tokenAt (character from lo hi) s at
     character-below h = code-is (wrongAt at) (unit-below 4 scalarOf utf8 (from + lo) (from + hi) s at c room scalar-is h)

@@ -1,5 +1,5 @@
 use native.Mathlib.Omega.{arith}
-use Rattle.fast.proofs.Spelling.{not-placed, head-sure}
+use Rattle.fast.proofs.Spelling.{not-placed, fsw-head-sure}
 use borrow.Author.Needs.{needs}
 use Rattle.fast.proofs.fsw.head_at.Statement.{statement}
 use Rattle.fast.proofs.fsw.head_at.Tie as tie
@@ -29,7 +29,7 @@ point-after-requires : tie.Need-point-after-requires
 point-after-requires c κs = search needs
 
 returns-4 : tie.Need-returns-4
-returns-4 c = head-sure _ _ _ _ (omega arith) (c .before .before .before .marker-of .ensures) (c .before .before .if2 .left) (c .before .if3 .left) (c .point-after .ensures)
+returns-4 c = fsw-head-sure _ _ _ _ (omega arith) (c .before .before .before .marker-of .ensures) (c .before .before .if2 .left) (c .before .if3 .left) (c .point-after .ensures)
 
 pub head-at-spec : {M : Type 1} → statement M
 head-at-spec =

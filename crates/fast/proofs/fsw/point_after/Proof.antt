@@ -1,4 +1,4 @@
-use Rattle.fast.proofs.Spelling.{none-after, point-sure}
+use Rattle.fast.proofs.Spelling.{none-after, fsw-point-sure}
 use borrow.Author.Needs.{needs}
 use Rattle.fast.proofs.fsw.point_after.Statement.{statement}
 use Rattle.fast.proofs.fsw.point_after.Tie as tie
@@ -28,7 +28,7 @@ returns-3 : tie.Need-returns-3
 returns-3 c = none-after
 
 returns-4 : tie.Need-returns-4
-returns-4 c = point-sure _ _ _ _ _ (c .before .before .before .before .before .before .before .pre) (c .before .before .before .before .before .number .ensures) (c .before .before .before .before .if1 .left) (c .before .before .if2 .left) (c .before .number2 .ensures) (c .if3 .left)
+returns-4 c = fsw-point-sure _ _ _ _ _ (c .before .before .before .before .before .before .before .pre) (c .before .before .before .before .before .number .ensures) (c .before .before .before .before .if1 .left) (c .before .before .if2 .left) (c .before .number2 .ensures) (c .if3 .left)
 
 pub point-after-spec : {M : Type 1} → statement M
 point-after-spec =

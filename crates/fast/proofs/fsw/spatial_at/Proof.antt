@@ -1,4 +1,5 @@
-use Rattle.fast.proofs.Spelling.{not-placed, spatial-sure}
+use Rattle.charset.specs.Tokens.{fsw, lastWriting}
+use Rattle.fast.proofs.Spelling.{not-placed, placed-sure}
 use borrow.Author.Needs.{needs}
 use Rattle.fast.proofs.fsw.spatial_at.Statement.{statement}
 use Rattle.fast.proofs.fsw.spatial_at.Tie as tie
@@ -22,7 +23,7 @@ point-after-requires : tie.Need-point-after-requires
 point-after-requires c κs = search needs
 
 returns-3 : tie.Need-returns-3
-returns-3 c = spatial-sure _ _ _ _ (c .before .before .symbol .ensures) (c .before .if2 .left) (c .point-after .ensures)
+returns-3 c = placed-sure _ fsw 6 (fsw .symbol lastWriting) _ _ _ (c .before .before .symbol .ensures) (c .before .if2 .left) (c .point-after .ensures)
 
 pub spatial-at-spec : {M : Type 1} → statement M
 spatial-at-spec =
