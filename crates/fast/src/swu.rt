@@ -1,6 +1,5 @@
-// A quick look at a whole token of SWU behind one test of the length, as for FSW. A byte that only begins a character
-// counts more than 63, so that one test covers both ends of what a byte after the first can be.
-ghost use mathlib.Core.Path.{_≡_};
+// A quick look at a whole token of SWU behind one test of the length, as for FSW. A byte that cannot follow a character's
+// first counts more than 63, so that one test covers both ends of the bytes that can.
 ghost use Prim.Native.Nat.{_+_, _^_, _≤_};
 ghost use lib.ListN.{length};
 ghost use Rattle.charset.specs.Bytes.{character};

@@ -119,16 +119,6 @@ fn quick_head(set: Charset, s: &[u8], at: usize) -> Placed
     }
 }
 
-fn quick_spatial(set: Charset, s: &[u8], at: usize) -> Placed
-    requires { ⌜ at + 256 ≤ 2 ^ 64 ⌝ }
-    ensures { λ r. ⌜ Sure (spatialSize set) (spatial (tokens set)) (now (s .entry)) at r ⌝ }
-{
-    match set {
-        Charset::Fsw => fast::fsw::spatial_at(s, at),
-        Charset::Swu => fast::swu::spatial_at(s, at),
-    }
-}
-
 fn quick_prefix_symbol(set: Charset, s: &[u8], at: usize) -> u16
     requires { ⌜ at + 256 ≤ 2 ^ 64 ⌝ }
     ensures { λ r. ⌜ SureValue (tokens set .symbolSize) (prefixSymbol (tokens set)) (now (s .entry)) at r ⌝ }
@@ -151,16 +141,28 @@ pub fn head_at(set: Charset, s: &[u8], at: usize) -> Placed
     Placed::At(m, x, y)
 }
 
-// A writing symbol and its coordinate.
+// A writing symbol and its coordinate. The careful reader is called for each set by itself, so that the compiler leaves
+// it out of the loop over the symbols.
 pub fn spatial_at(set: Charset, s: &[u8], at: usize) -> Placed
     requires { ⌜ at + 256 ≤ 2 ^ 64 ⌝ }
     ensures { λ r. ⌜ r ≡ placedAt (spatial (tokens set)) (now (s .entry)) at ⌝ }
 {
-    let quick = quick_spatial(set, s, at);
-    let Placed::At(code, x, y) = quick else {
-        return spatial_careful(set, s, at);
-    };
-    Placed::At(code, x, y)
+    match set {
+        Charset::Fsw => {
+            let quick = fast::fsw::spatial_at(s, at);
+            let Placed::At(code, x, y) = quick else {
+                return spatial_careful(Charset::Fsw, s, at);
+            };
+            Placed::At(code, x, y)
+        }
+        Charset::Swu => {
+            let quick = fast::swu::spatial_at(s, at);
+            let Placed::At(code, x, y) = quick else {
+                return spatial_careful(Charset::Swu, s, at);
+            };
+            Placed::At(code, x, y)
+        }
+    }
 }
 
 // A prefix symbol, by its code.
