@@ -22,14 +22,6 @@ pub next-same : (n : ℕ) (answer : Narrowed) → (answer .number ≡ 0 → ⊥)
 unfolding nextCount
 next-same n answer z = rw (ne-eqb (answer .number) 0 z)
 
--- the loop's test, of as many calls as there are lines
-module _ {calls size made : ℕ} (e : calls ≡ size) where
-  pub more : made < calls → made < size
-  more h = omega arith
-
-  pub done : calls ≤ made → size ≤ made
-  done h = omega arith
-
 -- after `made` calls the rest of the run ends as the whole does
 pub record Running (call : List ℕ → ℕ → List ℕ → Narrowed × List ℕ) (queries : List ℕ) (whole : Ended) (list : List ℕ) (kept dropped start made : ℕ) : Type 0 where
   pub most : made ≤ length (lines queries)

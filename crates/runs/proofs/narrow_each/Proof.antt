@@ -7,7 +7,7 @@ use Rattle.lines.specs.Lines.{lines}
 use Rattle.lines.proofs.Starts.{start-within}
 use Rattle.run.specs.Run.{run}
 use Rattle.dictionary.specs.Narrowing.{narrowed}
-use Rattle.runs.proofs.Running.{Running, more, done, running-start, running-end, running-line, running-dropped, running-more}
+use Rattle.runs.proofs.Running.{Running, running-start, running-end, running-line, running-dropped, running-more}
 use Rattle.runs.proofs.narrow_each.Statement.{statement}
 use Rattle.runs.proofs.narrow_each.Tie as tie
 
@@ -33,15 +33,15 @@ line-end-requires c κs = omega (arith, start-within _ _ _ (omega arith) (omega 
 
 -- src/lib.rt:51:52
 sub-narrow : tie.Need-sub-narrow Inv-loop μ-loop
-sub-narrow c = omega (arith, (running-line (c .before .before .before .loop .inv .0) (more (c .before .before .before .before .count .ensures) (c .before .before .loop-test .taken)) _ (c .before .line-end .ensures)) .low)
+sub-narrow c = omega (arith, (running-line (c .before .before .before .loop .inv .0) (omega (arith, c .before .before .before .before .count .ensures)) _ (c .before .line-end .ensures)) .low)
 
 -- src/lib.rt:51:52
 part-narrow-start : tie.Need-part-narrow-start Inv-loop μ-loop
-part-narrow-start c = omega (arith, (running-line (c .before .before .before .loop .inv .0) (more (c .before .before .before .before .count .ensures) (c .before .before .loop-test .taken)) _ (c .before .line-end .ensures)) .low)
+part-narrow-start c = omega (arith, (running-line (c .before .before .before .loop .inv .0) (omega (arith, c .before .before .before .before .count .ensures)) _ (c .before .line-end .ensures)) .low)
 
 -- src/lib.rt:51:52
 part-narrow-end : tie.Need-part-narrow-end Inv-loop μ-loop
-part-narrow-end c = omega (arith, (running-line (c .before .before .before .loop .inv .0) (more (c .before .before .before .before .count .ensures) (c .before .before .loop-test .taken)) _ (c .before .line-end .ensures)) .high)
+part-narrow-end c = omega (arith, (running-line (c .before .before .before .loop .inv .0) (omega (arith, c .before .before .before .before .count .ensures)) _ (c .before .line-end .ensures)) .high)
 
 -- src/lib.rt:51:13
 narrow-requires : tie.Need-narrow-requires Inv-loop μ-loop
@@ -49,7 +49,7 @@ narrow-requires c κs = search needs
 
 -- src/lib.rt:53:9
 add-dropped : tie.Need-add-dropped Inv-loop μ-loop
-add-dropped c = omega (arith, running-dropped (c .before .before .before .before .before .before .before .loop .inv .0) (more (c .before .before .before .before .before .before .before .before .count .ensures) (c .before .before .before .before .before .before .loop-test .taken)) (running-line (c .before .before .before .before .before .before .before .loop .inv .0) (more (c .before .before .before .before .before .before .before .before .count .ensures) (c .before .before .before .before .before .before .loop-test .taken)) _ (c .before .before .before .before .before .line-end .ensures)) _ _ (c .before .before .narrow .ensures), c .before .before .before .before .before .before .before .before .before .before .before .before .pre)
+add-dropped c = omega (arith, running-dropped (c .before .before .before .before .before .before .before .loop .inv .0) (omega (arith, c .before .before .before .before .before .before .before .before .count .ensures)) (running-line (c .before .before .before .before .before .before .before .loop .inv .0) (omega (arith, c .before .before .before .before .before .before .before .before .count .ensures)) _ (c .before .before .before .before .before .line-end .ensures)) _ _ (c .before .before .narrow .ensures), c .before .before .before .before .before .before .before .before .before .before .before .before .pre)
 
 -- src/lib.rt:54:9
 next-count-requires : tie.Need-next-count-requires Inv-loop μ-loop
@@ -57,7 +57,7 @@ next-count-requires c κs = search needs
 
 -- src/lib.rt:55:17
 add-start : tie.Need-add-start Inv-loop μ-loop
-add-start c = omega (arith, (running-line (c .before .before .before .before .before .before .before .before .loop .inv .0) (more (c .before .before .before .before .before .before .before .before .before .count .ensures) (c .before .before .before .before .before .before .before .loop-test .taken)) _ (c .before .before .before .before .before .before .line-end .ensures)) .high)
+add-start c = omega (arith, (running-line (c .before .before .before .before .before .before .before .before .loop .inv .0) (omega (arith, c .before .before .before .before .before .before .before .before .before .count .ensures)) _ (c .before .before .before .before .before .before .line-end .ensures)) .high)
 
 -- src/lib.rt:56:9
 add-made : tie.Need-add-made Inv-loop μ-loop
@@ -69,7 +69,7 @@ loop-less c = omega arith
 
 -- src/lib.rt:49:5
 loop-again : tie.Need-loop-again Inv-loop μ-loop
-loop-again c = (running-more (c .before .before .before .before .before .before .before .before .loop .inv .0) (more (c .before .before .before .before .before .before .before .before .before .count .ensures) (c .before .before .before .before .before .before .before .loop-test .taken)) (running-line (c .before .before .before .before .before .before .before .before .loop .inv .0) (more (c .before .before .before .before .before .before .before .before .before .count .ensures) (c .before .before .before .before .before .before .before .loop-test .taken)) _ (c .before .before .before .before .before .before .line-end .ensures)) _ _ (c .before .before .before .narrow .ensures) _ (c .next-count .ensures), omega arith)
+loop-again c = (running-more (c .before .before .before .before .before .before .before .before .loop .inv .0) (omega (arith, c .before .before .before .before .before .before .before .before .before .count .ensures)) (running-line (c .before .before .before .before .before .before .before .before .loop .inv .0) (omega (arith, c .before .before .before .before .before .before .before .before .before .count .ensures)) _ (c .before .before .before .before .before .before .line-end .ensures)) _ _ (c .before .before .before .narrow .ensures) _ (c .next-count .ensures), omega arith)
 
 -- src/lib.rt:40:1
 same-length : tie.Need-same-length Inv-loop μ-loop
@@ -77,7 +77,7 @@ same-length c = c .before .loop .inv .1
 
 -- src/lib.rt:40:1
 returns : tie.Need-returns Inv-loop μ-loop
-returns c = running-end (c .before .loop .inv .0) (done (c .before .before .count .ensures) (c .loop-test .left))
+returns c = running-end (c .before .loop .inv .0) (omega (arith, c .before .before .count .ensures, c .loop-test .left))
 
 pub narrow-each-spec : {M : Type 1} → statement M
 narrow-each-spec =
