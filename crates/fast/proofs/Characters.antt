@@ -1,5 +1,5 @@
 -- Characters of SWU: the four bytes that a symbol, a marker and a number stand for.
-use Prim.Native.Nat.{ℕ, _+_, _-_, _*_, _%_, _≤_}
+use Prim.Native.Nat.{ℕ, _+_, _-_, _*_, _/_, _%_, _^_, _≤_, _<_}
 use mathlib.Core.List.{List, [], _∷_}
 use mathlib.Core.Path.{_≡_, sym, ap, _∙_}
 use lib.ListN.{length, getD}
@@ -9,7 +9,7 @@ use Rattle.charset.specs.Tokens.{swu, swuNumber, lastLocation}
 use Rattle.charset.proofs.Coding.{utf8-of}
 use Rattle.token.proofs.Units.{four-at}
 use Rattle.grammar.specs.Sign.{prefixSymbol}
-use Rattle.fast.specs.Fast.{Spelled, SureTail, SureValue}
+use Rattle.fast.specs.Fast.{Spelled, Word, SureValue}
 
 -- the bytes of a character, from the six bits of each after the first
 bytes-are : (lead a b c d x y z : ℕ) → lead ≤ 7 → a ≡ 240 + lead → x ≤ 63 → y ≤ 63 → z ≤ 63 → b ≡ 128 + x → c ≡ 128 + y → d ≡ 128 + z
@@ -22,27 +22,61 @@ bytes-are lead a b c d x y z l e hx hy hz p q r =
     let k : a % 8 * 262144 + b % 64 * 4096 + c % 64 * 64 + d % 64 ≡ lead * 0x40000 + (x * 4096 + y * 64 + z) = omega arith in
     sym (utf8-of a b c d (omega arith) (omega arith) (omega arith) (omega arith)) ∙ ap utf8 k
 
+-- a byte whose two highest bits are clear
+clear : (n : ℕ) → n / 64 % 4 ≡ 0 → n ≡ n % 64 + n / 256 * 256
+clear n h = omega arith
+
+three-bytes : (d : ℕ) → d % 0x100 ≡ 0 → d / 0x4000 % 4 ≡ 0 → d / 0x400000 % 4 ≡ 0 → d ≡ d / 0x100 % 64 * 0x100 + d / 0x10000 % 64 * 0x10000 + d / 0x1000000 * 0x1000000
+three-bytes d h i j =
+    let f = clear (d / 0x100) (omega arith) in
+    let g = clear (d / 0x10000) (ap (λ n. n % 4) (over d) ∙ j) in
+    join d (d / 0x100) (d / 0x10000) (d / 0x1000000) (d / 0x100 % 64) (d / 0x10000 % 64) (omega arith) (omega (arith, f)) (omega (arith, g))
+  where
+    over : (n : ℕ) → n / 0x10000 / 64 ≡ n / 0x400000
+    over n = omega arith
+
+    join : (d a b c x y : ℕ) → d ≡ a * 0x100 → a ≡ x + b * 0x100 → b ≡ y + c * 0x100 → d ≡ x * 0x100 + y * 0x10000 + c * 0x1000000
+    join d a b c x y p q r = omega arith
+
+-- four bytes from their sum less the least that they may be
+split : (a b c e p q r t x y z w : ℕ) → a < 256 → b < 256 → c < 256 → e < 256 → p + w < 256 → q + x < 256 → r + y < 256 → t + z < 256
+    → (w + x * 0x100 + y * 0x10000 + z * 0x1000000 + (p + q * 0x100 + r * 0x10000 + t * 0x1000000)) % 2 ^ 32 ≡ a + b * 0x100 + c * 0x10000 + e * 0x1000000
+    → (a ≡ p + w) × (b ≡ q + x) × (c ≡ r + y) × (e ≡ t + z)
+split a b c e p q r t x y z w ha hb hc he hp hq hr ht k = (omega arith, omega arith, omega arith, omega arith)
+
 module _ (s : List ℕ) (at : ℕ) where
   -- a character at an offset, by its distance from a code point
-  module _ (room : at + 4 ≤ length s) (y z : ℕ) (p : SureTail (getD s (at + 2) 0) y) (q : SureTail (getD s (at + 3) 0) z) (hz : z ≤ 63) where
-    pub symbol-sure : (x last : ℕ) → SureTail (getD s (at + 1) 0) x → getD s at 0 ≡ 0xf1 → x ≤ 63 → y ≤ 63
-        → x * 4096 + y * 64 + z ≤ last → SureValue 4 (character 0x40000 1 last) s at (x * 4096 + y * 64 + z)
-    symbol-sure x last o e hx hy u = record {
-      is = λ h. record {
-        valid = (omega arith, u);
-        bytes = four-at s at room ∙ bytes-are 1 _ _ _ _ x y z (omega arith) e hx hy hz (o .is hx) (p .is hy) (q .is hz);
-      };
+  module _ (room : at + 4 ≤ length s) (r d : ℕ) (p : Word s at r) where
+    pub symbol-sure : (last : ℕ) → (d + 0x808080f1) % 2 ^ 32 ≡ r → d % 0x100 ≡ 0 → d / 0x4000 % 4 ≡ 0 → d / 0x400000 % 4 ≡ 0 → d / 0x40000000 ≡ 0
+        → d / 0x100 % 64 * 4096 + d / 0x10000 % 64 * 64 + d / 0x1000000 ≤ last
+        → SureValue 4 (character 0x40000 1 last) s at (d / 0x100 % 64 * 4096 + d / 0x10000 % 64 * 64 + d / 0x1000000)
+    symbol-sure last e h i j k u = record {
+      is = λ o.
+          let whole = three-bytes d h i j in
+          let four = split (getD s at 0) (getD s (at + 1) 0) (getD s (at + 2) 0) (getD s (at + 3) 0) 0xf1 0x80 0x80 0x80
+          (d / 0x100 % 64) (d / 0x10000 % 64) (d / 0x1000000) 0 (p .first) (p .second) (p .third) (p .fourth)
+          (omega arith) (omega arith) (omega arith) (omega arith) (omega (arith, p .is)) in
+          record {
+            valid = (omega arith, u);
+            bytes = four-at s at room ∙ bytes-are 1 _ _ _ _ (d / 0x100 % 64) (d / 0x10000 % 64) (d / 0x1000000)
+                (omega arith) (four .0) (omega arith) (omega arith) (omega arith) (four .1) (four .2) (four .3);
+          };
     }
 
-    pub marker-or-number-sure : getD s at 0 ≡ 0xf0 → getD s (at + 1) 0 ≡ 0x9d → 32 ≤ y → y ≤ 39
-        → SureValue 4 (character 0x1d800 1 511) s at ((y - 32) * 64 + z)
-    marker-or-number-sure e f l u = record {
-      is = λ h. record {
-        valid = (omega arith, omega arith);
-        bytes =
-            let k : 0 * 0x40000 + (0x1d * 4096 + y * 64 + z) ≡ 0x1d800 + ((y - 32) * 64 + z) = omega arith in
-            four-at s at room ∙ bytes-are 0 _ _ _ _ 0x1d y z (omega arith) e (omega arith) (omega arith) hz f (p .is (omega arith)) (q .is hz) ∙ ap utf8 k;
-      };
+    pub marker-or-number-sure : (d + 0x80a09df0) % 2 ^ 32 ≡ r → d % 0x10000 ≡ 0 → d / 0x80000 % 32 ≡ 0 → d / 0x40000000 ≡ 0
+        → SureValue 4 (character 0x1d800 1 511) s at (d / 0x10000 % 8 * 64 + d / 0x1000000)
+    marker-or-number-sure e h i j = record {
+      is = λ o.
+          let whole : d ≡ d / 0x10000 % 8 * 0x10000 + d / 0x1000000 * 0x1000000 = omega arith in
+          let four = split (getD s at 0) (getD s (at + 1) 0) (getD s (at + 2) 0) (getD s (at + 3) 0) 0xf0 0x9d 0xa0 0x80
+          0 (d / 0x10000 % 8) (d / 0x1000000) 0 (p .first) (p .second) (p .third) (p .fourth)
+          (omega arith) (omega arith) (omega arith) (omega arith) (omega (arith, p .is)) in
+          let k : 0 * 0x40000 + (0x1d * 4096 + (32 + d / 0x10000 % 8) * 64 + d / 0x1000000) ≡ 0x1d800 + (d / 0x10000 % 8 * 64 + d / 0x1000000) = omega arith in
+          record {
+            valid = (omega arith, omega arith);
+            bytes = four-at s at room ∙ bytes-are 0 _ _ _ _ 0x1d (32 + d / 0x10000 % 8) (d / 0x1000000)
+                (omega arith) (four .0) (omega arith) (omega arith) (omega arith) (four .1) (omega (arith, four .2)) (four .3) ∙ ap utf8 k;
+          };
     }
 
   -- a symbol that is not null is written alike where null is allowed

@@ -1,4 +1,4 @@
--- Single bytes: what the tests of hex, dec and marker_of find, and the byte that a digit or a marker stands for.
+-- Single bytes: what the tests of hex and marker_of find, and the byte that a digit or a marker stands for.
 use Prim.Native.Nat.{ℕ, _+_, _%_, _^_, _≤_, _<_}
 use mathlib.Core.List.{[], _∷_}
 use mathlib.Core.Path.{_≡_, refl, sym, ap, _∙_}
@@ -11,25 +11,29 @@ use Rattle.charset.specs.Bytes.{digitOf, digitByte, markerOf, markerByte}
 use Rattle.charset.proofs.Coding.{by-test, digit-of-byte, byte-of-digit, letter-lawful}
 use Rattle.fast.specs.Fast.{digitOr}
 
-digit-found : (radix b d : ℕ) → radix ≤ 16 → d < radix → b ≡ digitByte d → d ≡ digitOr radix b
+digit-found : (b d : ℕ) → d < 16 → b ≡ digitByte d → d ≡ digitOr b
 unfolding digitOr
-digit-found radix b d r h e =
-    let k : digitOf b ≡ d = ap digitOf e ∙ digit-of-byte d (omega arith) in
-    rw (k, lt-leb radix d h)
+digit-found b d h e =
+    let k : digitOf b ≡ d = ap digitOf e ∙ digit-of-byte d h in
+    rw (k, lt-leb 16 d h)
 
-none-found : (radix b : ℕ) → radix ≤ 16 → ((d : ℕ) → d < radix → b ≡ digitByte d → ⊥) → 4096 ≡ digitOr radix b
+none-found : (b : ℕ) → ((d : ℕ) → d < 16 → b ≡ digitByte d → ⊥) → 65536 ≡ digitOr b
 unfolding digitOr
-none-found radix b r n =
-    by-test (λ v. 4096 ≡ v) (leb radix (digitOf b)) (λ _. refl) λ e.
-    let k : digitOf b < radix = leb-false radix (digitOf b) e in
-    absurd (n (digitOf b) k (sym (byte-of-digit b (omega arith))))
+none-found b n =
+    by-test (λ v. 65536 ≡ v) (leb 16 (digitOf b)) (λ _. refl) λ e.
+    let k : digitOf b < 16 = leb-false 16 (digitOf b) e in
+    absurd (n (digitOf b) k (sym (byte-of-digit b k)))
+
+-- a digit that is no letter
+pub decimal : (b d : ℕ) → d < 10 → b ≡ 48 + d → b ≡ digitByte d
+decimal b d h e = rw (lt-ltb d 10 h) e
 
 -- the same by differences that wrap
-pub ten : (radix b t : ℕ) → 10 ≤ radix → radix ≤ 16 → t < 10 → (t + 48) % 2 ^ 32 ≡ b → t ≡ digitOr radix b
-ten radix b t l r h e = digit-found radix b t r (omega arith) (rw (lt-ltb t 10 h) (omega arith))
+pub ten : (b t : ℕ) → t < 10 → (t + 48) % 2 ^ 32 ≡ b → t ≡ digitOr b
+ten b t h e = digit-found b t (omega arith) (decimal b t h (omega arith))
 
-pub six : (b u : ℕ) → u < 6 → (u + 97) % 2 ^ 32 ≡ b → u + 10 ≡ digitOr 16 b
-six b u h e = digit-found 16 b (u + 10) (omega arith) (omega arith) (rw (le-ltb (u + 10) 10 (omega arith)) (omega arith))
+pub six : (b u : ℕ) → u < 6 → (u + 97) % 2 ^ 32 ≡ b → u + 10 ≡ digitOr b
+six b u h e = digit-found b (u + 10) (omega arith) (rw (le-ltb (u + 10) 10 (omega arith)) (omega arith))
 
 not-ten : (b t d : ℕ) → t < 2 ^ 32 → 10 ≤ t → (t + 48) % 2 ^ 32 ≡ b → d < 10 → b ≡ 48 + d → ⊥
 not-ten b t d f h e k x = omega arith
@@ -37,30 +41,22 @@ not-ten b t d f h e k x = omega arith
 not-six : (b u d : ℕ) → u < 2 ^ 32 → 6 ≤ u → (u + 97) % 2 ^ 32 ≡ b → 10 ≤ d → d < 16 → b ≡ 87 + d → ⊥
 not-six b u d f h e l k x = omega arith
 
-pub hex-none : (b t u : ℕ) → t < 2 ^ 32 → u < 2 ^ 32 → 10 ≤ t → 6 ≤ u → (t + 48) % 2 ^ 32 ≡ b → (u + 97) % 2 ^ 32 ≡ b → 4096 ≡ digitOr 16 b
-hex-none b t u ft fu ht hu et eu =
-    none-found 16 b (omega arith) λ d h.
+pub none : (b t u : ℕ) → t < 2 ^ 32 → u < 2 ^ 32 → 10 ≤ t → 6 ≤ u → (t + 48) % 2 ^ 32 ≡ b → (u + 97) % 2 ^ 32 ≡ b → 65536 ≡ digitOr b
+none b t u ft fu ht hu et eu =
+    none-found b λ d h.
     by-test (λ v. b ≡ v → ⊥) (ltb d 10) (λ k. not-ten b t d ft ht et (ltb-true d 10 k)) λ k. not-six b u d fu hu eu (ltb-false d 10 k) h
 
-pub dec-none : (b t : ℕ) → t < 2 ^ 32 → 10 ≤ t → (t + 48) % 2 ^ 32 ≡ b → 4096 ≡ digitOr 10 b
-dec-none b t ft ht et = none-found 10 b (omega arith) λ d h e. not-ten b t d ft ht et h (rw (lt-ltb d 10 h) at e)
-
-pub bounded : (radix b d : ℕ) → radix ≤ 16 → d ≡ digitOr radix b → d ≤ 4096
-unfolding digitOr
-bounded radix b d r =
-    by-test (λ v. d ≡ v → d ≤ 4096) (leb radix (digitOf b)) (λ _ e. omega arith) λ k e. omega (arith, leb-false radix (digitOf b) k)
-
 -- the byte of a digit
-pub record Digit (radix b d : ℕ) : Type 0 where
-  pub below : d < radix
+pub record Digit (b d : ℕ) : Type 0 where
+  pub below : d < 16
   pub byte : b ≡ digitByte d
 
-pub digit-is : (radix b : ℕ) → radix ≤ 16 → digitOr radix b < 4096 → Digit radix b (digitOr radix b)
+pub digit-is : (b : ℕ) → digitOr b < 65536 → Digit b (digitOr b)
 unfolding digitOr
-digit-is radix b r =
-    by-test (λ v. v < 4096 → Digit radix b v) (leb radix (digitOf b)) (λ _ h. absurd (omega arith)) λ e h.
-    let k : digitOf b < radix = leb-false radix (digitOf b) e in
-    record { below = k; byte = sym (byte-of-digit b (omega arith)) }
+digit-is b =
+    by-test (λ v. v < 65536 → Digit b v) (leb 16 (digitOf b)) (λ _ h. absurd (omega arith)) λ e h.
+    let k : digitOf b < 16 = leb-false 16 (digitOf b) e in
+    record { below = k; byte = sym (byte-of-digit b k) }
 
 -- what a variable is after a test that sets it
 pub chosen : {P Q : Type 0} {b k v old o m : ℕ} → (P × (m ≡ v)) ⊎ (Q × (m ≡ old)) → (P → b ≡ k) → (Q → b ≡ k → ⊥) → old ≡ o → m ≡ choose (eqb b k) v o

@@ -1,5 +1,5 @@
 -- The bytes at an offset are those of a value: single bytes and digits, one token after another, and the tokens of FSW.
-use Prim.Native.Nat.{ℕ, zero, suc, _+_, _/_, _%_, _≤_, _<_}
+use Prim.Native.Nat.{ℕ, zero, suc, _+_, _-_, _*_, _/_, _%_, _^_, _≤_, _<_}
 use mathlib.Core.List.{List, [], _∷_, _++_}
 use mathlib.Core.Path.{_≡_, refl, sym, ap, _∙_, subst}
 use lib.Dec.{ltb}
@@ -15,8 +15,8 @@ use Rattle.charset.proofs.Keys.{parts-of-key}
 use Rattle.grammar.specs.Sign.{point, placed, prefixSymbol, head}
 use Rattle.fast.specs.declared.fsw.Placed.{Placed}
 use Rattle.fast.specs.declared.fsw.Placed.the-variants.{At, Short}
-use Rattle.fast.specs.Fast.{digitIn, baseIn, turnIn, numberIn, codeIn, Spelled, SureValue, Sure, SureAfter}
-use Rattle.fast.proofs.Digits.{digit-is, marker-byte}
+use Rattle.fast.specs.Fast.{digitIn, baseIn, turnIn, Spelled, SureDigit, SureValue, Sure, SureAfter}
+use Rattle.fast.proofs.Digits.{decimal, digit-is, marker-byte}
 
 -- finding nothing says nothing
 pub no-value : {n : ℕ} {f : Format ℕ} {s : List ℕ} {at : ℕ} → SureValue n f s at 0
@@ -30,24 +30,6 @@ not-placed = record { is = λ v x y e. short-at e }
 
 pub none-after : {t : Tokens} {s : List ℕ} {at value : ℕ} → SureAfter t s at value Short
 none-after = record { is = λ v x y e. short-at e }
-
--- what a code that is not 0 is made of
-record Code (b t top code : ℕ) : Type 0 where
-  pub low : 0x100 ≤ b
-  pub high : b ≤ top
-  pub small : t ≤ 0x5f
-  pub is : code ≡ keyOf (b, t)
-
-code-is : (b t top code : ℕ) → code ≡ codeIn b t top → 0 < code → Code b t top code
-unfolding codeIn
-code-is b t top code =
-    by-test P (ltb b 0x100) (λ _ e z. absurd (omega arith)) λ x.
-    by-test P (ltb top b) (λ _ e z. absurd (omega arith)) λ y.
-    by-test P (ltb 0x5f t) (λ _ e z. absurd (omega arith)) λ w e z.
-    record { low = ltb-false b 0x100 x; high = ltb-false top b y; small = ltb-false 0x5f t w; is = e }
-  where
-    P : ℕ → Type 0
-    P v = code ≡ v → 0 < code → Code b t top code
 
 module _ (s : List ℕ) where
   byte-at : (at b : ℕ) → at < length s → getD s at 0 ≡ b → take 1 (drop at s) ≡ b ∷ []
@@ -73,48 +55,51 @@ module _ (s : List ℕ) where
     bytes = bytes-then 1 n at next (b ∷ []) (f .write v) e (byte-at at b h k) (p .bytes);
   }
 
-  -- the digits of a sum
-  module _ (radix : ℕ) (r : radix ≤ 16) where
-    below : (at : ℕ) → digitIn radix s at < 4096 → digitIn radix s at < radix
-    below at k = digit-is radix (getD s at 0) r k .below
+  -- numerals of two and three digits
+  two-digits : (p lo hi at next v : ℕ) → next ≡ at + 1 → next < length s → getD s at 0 ≡ digitByte (v / p) → getD s next 0 ≡ digitByte (v % p)
+      → take 2 (drop at s) ≡ digits (p ∷ []) lo hi .write v
+  two-digits p lo hi at next v e h a b =
+      bytes-then 1 1 at next (digitByte (v / p) ∷ []) (digitByte (v % p) ∷ []) e (byte-at at _ (omega arith) a) (byte-at next _ h b)
 
-    digit-at : (at d : ℕ) → at < length s → digitIn radix s at < 4096 → d ≡ digitIn radix s at → take 1 (drop at s) ≡ digitByte d ∷ []
-    digit-at at d h k e = byte-at at (digitByte d) h (digit-is radix (getD s at 0) r k .byte ∙ ap (λ n. digitByte n) (sym e))
+  three-digits : (p q lo hi at v : ℕ) → at + 3 ≤ length s → getD s at 0 ≡ digitByte (v / p) → getD s (at + 1) 0 ≡ digitByte (v % p / q)
+      → getD s (at + 2) 0 ≡ digitByte (v % p % q) → take 3 (drop at s) ≡ digits (p ∷ q ∷ []) lo hi .write v
+  three-digits p q lo hi at v h a b c =
+      bytes-then 1 2 at (at + 1) (digitByte (v / p) ∷ []) (digitByte (v % p / q) ∷ digitByte (v % p % q) ∷ []) refl
+      (byte-at at _ (omega arith) a) (two-digits q lo hi (at + 1) (at + 2) (v % p) (omega arith) (omega arith) b c)
 
-    two-digits : (p lo hi at next v : ℕ) → next ≡ at + 1 → next < length s → digitIn radix s at < 4096 → digitIn radix s next < 4096
-        → (digitIn radix s at < radix → digitIn radix s next < radix → (v / p ≡ digitIn radix s at) × (v % p ≡ digitIn radix s next))
-        → take 2 (drop at s) ≡ digits (p ∷ []) lo hi .write v
-    two-digits p lo hi at next v e h a b k =
-        let j = k (below at a) (below next b) in
-        bytes-then 1 1 at next (digitByte (v / p) ∷ []) (digitByte (v % p) ∷ []) e (digit-at at (v / p) (omega arith) a (j .0)) (digit-at next (v % p) h b (j .1))
+  pub number-sure : (at a b c sum : ℕ) → at + 3 ≤ length s → a ≡ getD s at 0 → SureDigit (getD s (at + 1) 0) b → SureDigit (getD s (at + 2) 0) c → b ≤ 9 → c ≤ 9
+      → sum ≡ a * 100 + b * 10 + c → 4800 + 250 ≤ sum → sum ≤ 4800 + 749 → SureValue 3 fswNumber s at (sum - 4800)
+  number-sure at a b c sum h ea p q hb hc e l u = record {
+    is = λ _. let eb = p .is hb in let ec = q .is hc in record {
+      valid = (omega arith, omega arith);
+      bytes = three-digits 100 10 250 749 at (sum - 4800) h
+          (decimal (getD s at 0) ((sum - 4800) / 100) (omega arith) (omega arith))
+          (decimal (getD s (at + 1) 0) ((sum - 4800) % 100 / 10) (omega arith) (omega arith))
+          (decimal (getD s (at + 2) 0) ((sum - 4800) % 100 % 10) (omega arith) (omega arith));
+    };
+  }
 
-    three-digits : (p q lo hi at v : ℕ) → at + 3 ≤ length s
-        → digitIn radix s at < 4096 → digitIn radix s (at + 1) < 4096 → digitIn radix s (at + 2) < 4096
-        → (digitIn radix s at < radix → digitIn radix s (at + 1) < radix → digitIn radix s (at + 2) < radix
-        → (v / p ≡ digitIn radix s at) × (v % p / q ≡ digitIn radix s (at + 1)) × (v % p % q ≡ digitIn radix s (at + 2)))
-        → take 3 (drop at s) ≡ digits (p ∷ q ∷ []) lo hi .write v
-    three-digits p q lo hi at v h a b c k =
-        let j = k (below at a) (below (at + 1) b) (below (at + 2) c) in
-        bytes-then 1 2 at (at + 1) (digitByte (v / p) ∷ []) (digitByte (v % p / q) ∷ digitByte (v % p % q) ∷ [])
-        refl (digit-at at (v / p) (omega arith) a (j .0)) (two-digits q lo hi (at + 1) (at + 2) (v % p) (omega arith) (omega arith) b c λ _ _. (j .1, j .2))
+  -- a digit of a sum
+  digit-at : (at d : ℕ) → digitIn s at < 65536 → d ≡ digitIn s at → getD s at 0 ≡ digitByte d
+  digit-at at d k e = digit-is (getD s at 0) k .byte ∙ ap (λ n. digitByte n) (sym e)
 
-  number-bytes : (at v : ℕ) → at + 3 ≤ length s → v ≡ numberIn s at → v ≤ 749 → take 3 (drop at s) ≡ fswNumber .write v
-  number-bytes at v h e u =
-      three-digits 10 (omega arith) 100 10 250 749 at v h (omega arith) (omega arith) (omega arith) λ a b c. (omega arith, omega arith, omega arith)
+  base-bytes : (lo hi at b : ℕ) → at + 3 ≤ length s → b + 0x3000 ≡ baseIn s at → b < 0x400 → take 3 (drop at s) ≡ base lo hi .write b
+  base-bytes lo hi at b h e u =
+      let j = digit-is (getD s (at + 1) 0) (omega arith) .below in
+      let k = digit-is (getD s (at + 2) 0) (omega arith) .below in
+      three-digits 256 16 lo hi at b h
+      (decimal (getD s at 0) (b / 256) (omega arith) (omega (arith, j, k)))
+      (digit-at (at + 1) (b % 256 / 16) (omega arith) (omega (arith, j, k)))
+      (digit-at (at + 2) (b % 256 % 16) (omega arith) (omega (arith, j, k)))
 
-  base-bytes : (lo hi at v : ℕ) → at + 3 ≤ length s → v ≡ baseIn s at → v < 4096 → take 3 (drop at s) ≡ base lo hi .write v
-  base-bytes lo hi at v h e u =
-      three-digits 16 (omega arith) 256 16 lo hi at v h (omega arith) (omega arith) (omega arith) λ a b c. (omega arith, omega arith, omega arith)
-
-  turn-bytes : (hi at v : ℕ) → at + 2 ≤ length s → v ≡ turnIn s at → v < 256 → take 2 (drop at s) ≡ turn hi .write v
-  turn-bytes hi at v h e u =
-      two-digits 16 (omega arith) 16 0 hi at (at + 1) v refl (omega arith) (omega arith) (omega arith) λ a b. (omega arith, omega arith)
-
-  pub number-sure : (at v : ℕ) → at + 3 ≤ length s → v ≡ numberIn s at → 250 ≤ v → v ≤ 749 → SureValue 3 fswNumber s at v
-  number-sure at v h e l u = record { is = λ _. record { valid = (l, u); bytes = number-bytes at v h e u } }
+  turn-bytes : (hi at t : ℕ) → at + 2 ≤ length s → t + 0x300 ≡ turnIn s at → t < 0x60 → take 2 (drop at s) ≡ turn hi .write t
+  turn-bytes hi at t h e u =
+      let j = digit-is (getD s (at + 1) 0) (omega arith) .below in
+      two-digits 16 0 hi at (at + 1) t refl (omega arith)
+      (decimal (getD s at 0) (t / 16) (omega arith) (omega (arith, j))) (digit-at (at + 1) (t % 16) (omega arith) (omega (arith, j)))
 
   key-spelled : (top at next b t : ℕ) → next ≡ at + 3 → at + 5 ≤ length s → top ≤ 0x38b → 0x100 ≤ b → b ≤ top → t ≤ 0x5f
-      → b ≡ baseIn s at → t ≡ turnIn s next → Spelled 5 (key top) s at (keyOf (b, t))
+      → b + 0x3000 ≡ baseIn s at → t + 0x300 ≡ turnIn s next → Spelled 5 (key top) s at (keyOf (b, t))
   key-spelled top at next b t e h k l u w p q = record {
     valid = (omega arith, omega arith);
     bytes = bytes-then 3 2 at next (base 0x100 top .write b) (turn 0x5f .write t) e
@@ -122,14 +107,16 @@ module _ (s : List ℕ) where
         ∙ ap (λ n. base 0x100 top .write (n .0) ++ turn 0x5f .write (n .1)) (sym (parts-of-key b t l w));
   }
 
-  pub symbol-sure : (top at b t code : ℕ) → at + 6 ≤ length s → top ≤ 0x38b → getD s at 0 ≡ 83
-      → b ≡ baseIn s (at + 1) → t ≡ turnIn s (at + 4) → code ≡ codeIn b t top → SureValue 6 (fsw .symbol top) s at code
-  symbol-sure top at b t code h k e p q f = record {
+  -- a base by its distance from 100
+  pub symbol-sure : (top at b t : ℕ) → at + 6 ≤ length s → 0x100 ≤ top → top ≤ 0x38b → getD s at 0 ≡ 83
+      → (b + 0x3100) % 2 ^ 32 ≡ baseIn s (at + 1) → b ≤ top - 0x100 → (t + 0x300) % 2 ^ 32 ≡ turnIn s (at + 4) → t ≤ 0x5f
+      → SureValue 6 (fsw .symbol top) s at (b * 96 + t + 1)
+  symbol-sure top at b t h l k e p u q w = record {
     is = λ z.
-        let j = code-is b t top code f z in
-        subst (λ v. Spelled 6 (fsw .symbol top) s at v) (sym (j .is))
-        (spelled-after 5 83 (key top) at (at + 1) (keyOf (b, t)) refl (omega arith) e
-        (key-spelled top (at + 1) (at + 4) b t (omega arith) (omega arith) k (j .low) (j .high) (j .small) p q));
+        let j : keyOf (b + 0x100, t) ≡ b * 96 + t + 1 = omega arith in
+        subst (λ v. Spelled 6 (fsw .symbol top) s at v) j
+        (spelled-after 5 83 (key top) at (at + 1) (keyOf (b + 0x100, t)) refl (omega arith) e
+        (key-spelled top (at + 1) (at + 4) (b + 0x100) t (omega arith) (omega arith) k (omega arith) (omega arith) w (omega arith) (omega arith)));
   }
 
   -- a symbol that is not null is written alike where null is allowed

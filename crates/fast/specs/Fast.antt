@@ -1,8 +1,9 @@
--- What a quick look computes and finds. FSW: sums over digits, in which a byte that is no digit counts 4096.
-use Prim.Native.Nat.{ℕ, _+_, _-_, _*_, _≤_, _<_}
+-- What a quick look computes and finds. FSW: sums over digits, in which the first counts as its byte, 0x30 more than its
+-- value, and a byte that is no hexadecimal digit counts 65536.
+use Prim.Native.Nat.{ℕ, _+_, _*_, _≤_, _<_}
 use mathlib.Core.Path.{_≡_}
 use mathlib.Core.List.{List}
-use lib.Dec.{leb, ltb}
+use lib.Dec.{leb}
 use lib.ListN.{getD, take, drop}
 use Rattle.format.specs.Format.{Format, choose}
 use Rattle.charset.specs.Bytes.{digitOf}
@@ -11,26 +12,18 @@ use Rattle.grammar.specs.Sign.{point}
 use Rattle.fast.specs.declared.fsw.Placed.{Placed}
 use Rattle.fast.specs.declared.fsw.Placed.the-variants.{At}
 
--- the digit where it is below radix, and else 4096
-unfoldable pub digitOr : ℕ → ℕ → ℕ
-digitOr radix b = choose (leb radix (digitOf b)) 4096 (digitOf b)
+-- the value of a hexadecimal digit, and 65536 for any other byte
+unfoldable pub digitOr : ℕ → ℕ
+digitOr b = choose (leb 16 (digitOf b)) 65536 (digitOf b)
 
-abbrev pub digitIn : ℕ → List ℕ → ℕ → ℕ
-digitIn radix s at = digitOr radix (getD s at 0)
+abbrev pub digitIn : List ℕ → ℕ → ℕ
+digitIn s at = digitOr (getD s at 0)
 
 abbrev pub baseIn : List ℕ → ℕ → ℕ
-baseIn s at = digitIn 16 s at * 256 + digitIn 16 s (at + 1) * 16 + digitIn 16 s (at + 2)
+baseIn s at = getD s at 0 * 256 + digitIn s (at + 1) * 16 + digitIn s (at + 2)
 
 abbrev pub turnIn : List ℕ → ℕ → ℕ
-turnIn s at = digitIn 16 s at * 16 + digitIn 16 s (at + 1)
-
-abbrev pub numberIn : List ℕ → ℕ → ℕ
-numberIn s at = digitIn 10 s at * 100 + digitIn 10 s (at + 1) * 10 + digitIn 10 s (at + 2)
-
--- the code of a base of at most top with its fill and rotation, and 0 where there is none
-unfoldable pub codeIn : ℕ → ℕ → ℕ → ℕ
-codeIn base turn top =
-    choose (ltb base 0x100) 0 (choose (ltb top base) 0 (choose (ltb 0x5f turn) 0 ((base - 0x100) * 96 + turn + 1)))
+turnIn s at = getD s at 0 * 16 + digitIn s (at + 1)
 
 -- the n bytes at an offset are those of a value
 pub record Spelled (n : ℕ) {A : Type 0} (f : Format A) (s : List ℕ) (at : ℕ) (v : A) : Type 0 where
@@ -48,6 +41,14 @@ pub record Sure (n : ℕ) (f : Format (ℕ × (ℕ × ℕ))) (s : List ℕ) (at 
 pub record SureAfter (t : Tokens) (s : List ℕ) (at value : ℕ) (r : Placed) : Type 0 where
   pub is : (v x y : ℕ) → r ≡ At v x y → (v ≡ value) × Spelled (t .numberSize + t .secondSize) (point t) s at (x, y)
 
--- SWU: the six bits of a byte after a character's first; more than 63 says nothing
-pub record SureTail (b r : ℕ) : Type 0 where
-  pub is : r ≤ 63 → b ≡ 128 + r
+-- the value of a decimal digit; more than 9 says nothing
+pub record SureDigit (b r : ℕ) : Type 0 where
+  pub is : r ≤ 9 → b ≡ 48 + r
+
+-- SWU: four bytes as one number, the first the lowest
+pub record Word (s : List ℕ) (at r : ℕ) : Type 0 where
+  pub is : r ≡ getD s at 0 + getD s (at + 1) 0 * 0x100 + getD s (at + 2) 0 * 0x10000 + getD s (at + 3) 0 * 0x1000000
+  pub first : getD s at 0 < 256
+  pub second : getD s (at + 1) 0 < 256
+  pub third : getD s (at + 2) 0 < 256
+  pub fourth : getD s (at + 3) 0 < 256

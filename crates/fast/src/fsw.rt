@@ -1,12 +1,12 @@
 // A quick look at a whole token of FSW behind one test of the length. What it finds is there; where it finds nothing,
-// the careful reader says what is wrong and where. A byte that is no digit counts 4096, so that one test of the sum
-// covers all digits of a number, and no branch depends on a single digit.
+// the careful reader says what is wrong and where. Digits go into a sum, in which the first counts as its byte, 0x30 more
+// than its value, and a byte that is no hexadecimal digit counts 65536: the limits of the sum are then those of its digits.
 ghost use mathlib.Core.Path.{_≡_};
-ghost use Prim.Native.Nat.{_+_, _^_, _≤_};
+ghost use Prim.Native.Nat.{_+_, _^_, _≤_, _<_};
 ghost use lib.ListN.{length};
 ghost use Rattle.charset.specs.Tokens.{fsw, fswNumber};
 ghost use Rattle.grammar.specs.Sign.{head, spatial, prefixSymbol};
-ghost use Rattle.fast.specs.Fast.{digitOr, baseIn, turnIn, numberIn, codeIn, SureValue, Sure, SureAfter};
+ghost use Rattle.fast.specs.Fast.{digitOr, baseIn, turnIn, SureDigit, SureValue, Sure, SureAfter};
 use token::reading::marker_of;
 
 // A code or a marker with its coordinate; the offset of the unit that is not allowed; or that the text ends.
@@ -16,13 +16,14 @@ pub enum Placed {
     Short,
 }
 
-// The value of a hexadecimal digit in lower case, and 4096 for any other byte.
+// The value of a hexadecimal digit in lower case, and 65536 for any other byte.
 fn hex(b: u8) -> u32
-    ensures { λ r. ⌜ r ≡ digitOr 16 b ⌝ }
+    ensures is { λ r. ⌜ r ≡ digitOr b ⌝ }
+    ensures small { λ r. ⌜ r ≤ 65536 ⌝ }
 {
     let t = std::num::wrapping_sub_u32(b as u32, 48);
     let u = std::num::wrapping_sub_u32(b as u32, 97);
-    let mut v: u32 = 4096;
+    let mut v: u32 = 65536;
     if u < 6 {
         v = u + 10;
     }
@@ -32,69 +33,55 @@ fn hex(b: u8) -> u32
     v
 }
 
-// The value of a decimal digit, and 4096 for any other byte.
-fn dec(b: u8) -> u32
-    ensures { λ r. ⌜ r ≡ digitOr 10 b ⌝ }
+pub fn wide(b: u8) -> u32
+    ensures is { λ r. ⌜ r ≡ b ⌝ }
+    ensures small { λ r. ⌜ r < 256 ⌝ }
 {
-    let t = std::num::wrapping_sub_u32(b as u32, 48);
-    let mut v: u32 = 4096;
-    if t < 10 {
-        v = t;
-    }
-    v
+    b as u32
+}
+
+// The value of a decimal digit, and more than 9 for any other byte.
+fn dec(b: u8) -> u32
+    ensures { λ r. ⌜ SureDigit b r ⌝ }
+{
+    std::num::wrapping_sub_u32(b as u32, 48)
 }
 
 fn base_of(s: &[u8], at: usize) -> u32
     requires { ⌜ at + 3 ≤ length (now s) ⌝ }
     ensures { λ r. ⌜ r ≡ baseIn (now (s .entry)) at ⌝ }
 {
-    hex(s[at]) * 256 + hex(s[at + 1]) * 16 + hex(s[at + 2])
+    wide(s[at]) * 256 + hex(s[at + 1]) * 16 + hex(s[at + 2])
 }
 
 fn turn_of(s: &[u8], at: usize) -> u32
     requires { ⌜ at + 2 ≤ length (now s) ⌝ }
     ensures { λ r. ⌜ r ≡ turnIn (now (s .entry)) at ⌝ }
 {
-    hex(s[at]) * 16 + hex(s[at + 1])
+    wide(s[at]) * 16 + hex(s[at + 1])
 }
 
-fn number_of(s: &[u8], at: usize) -> u32
-    requires { ⌜ at + 3 ≤ length (now s) ⌝ }
-    ensures { λ r. ⌜ r ≡ numberIn (now (s .entry)) at ⌝ }
-{
-    dec(s[at]) * 100 + dec(s[at + 1]) * 10 + dec(s[at + 2])
-}
-
-// A number, and 0 where there is none.
+// A number, and 0 where there is none. The limits of the sum leave no first byte but the digits 2 to 7.
 fn number(s: &[u8], at: usize) -> u16
     requires { ⌜ at + 3 ≤ length (now s) ⌝ }
     ensures { λ r. ⌜ SureValue 3 fswNumber (now (s .entry)) at r ⌝ }
 {
-    let x = number_of(s, at);
-    if x < 250 {
+    let b = dec(s[at + 1]);
+    let c = dec(s[at + 2]);
+    if 9 < b {
         return 0;
     }
-    if 749 < x {
+    if 9 < c {
         return 0;
     }
-    x as u16
-}
-
-// The code of a base of at most top with a fill and a rotation, and 0 where there is none.
-fn code_of(base: u32, turn: u32, top: u32) -> u16
-    requires { ⌜ top ≤ 0x38b ⌝ }
-    ensures { λ r. ⌜ r ≡ codeIn base turn top ⌝ }
-{
-    if base < 0x100 {
+    let sum = wide(s[at]) * 100 + b * 10 + c;
+    if sum < 4800 + 250 {
         return 0;
     }
-    if top < base {
+    if 4800 + 749 < sum {
         return 0;
     }
-    if 0x5f < turn {
-        return 0;
-    }
-    ((base - 0x100) * 96 + turn + 1) as u16
+    (sum - 4800) as u16
 }
 
 // The code of a symbol key with a base of at most top, and 0 where there is none.
@@ -105,7 +92,15 @@ fn symbol(s: &[u8], at: usize, top: u32) -> u16
     if s[at] != 83 {
         return 0;
     }
-    code_of(base_of(s, at + 1), turn_of(s, at + 4), top)
+    let base = std::num::wrapping_sub_u32(base_of(s, at + 1), 0x3100);
+    if top - 0x100 < base {
+        return 0;
+    }
+    let turn = std::num::wrapping_sub_u32(turn_of(s, at + 4), 0x300);
+    if 0x5f < turn {
+        return 0;
+    }
+    (base * 96 + turn + 1) as u16
 }
 
 // A prefix symbol other than null, by its code, and 0 where there is none.

@@ -1,70 +1,63 @@
-// A quick look at a whole token of SWU behind one test of the length, as for FSW. A byte that cannot follow a character's
-// first counts more than 63, so that one test covers both ends of the bytes that can.
+// A quick look at a whole token of SWU behind one test of the length, as for FSW. The least bytes allowed are taken off all
+// four at once; the tests of what is left are of single bits, so that a compiler makes one test of them.
 ghost use Prim.Native.Nat.{_+_, _^_, _≤_};
 ghost use lib.ListN.{length};
 ghost use Rattle.charset.specs.Bytes.{character};
 ghost use Rattle.charset.specs.Tokens.{swu};
 ghost use Rattle.grammar.specs.Sign.{head, spatial, prefixSymbol};
-ghost use Rattle.fast.specs.Fast.{SureTail, SureValue, Sure, SureAfter};
+ghost use Rattle.fast.specs.Fast.{Word, SureValue, Sure, SureAfter};
 use super::fsw::Placed;
+use super::fsw::wide;
 
-// The six bits of a byte after a character's first, and more than 63 for any other byte.
-fn tail(b: u8) -> u32
-    ensures { λ r. ⌜ SureTail b r ⌝ }
+// The four bytes at an offset as one number, the first the lowest, which a machine takes at once.
+fn word(s: &[u8], at: usize) -> u32
+    requires { ⌜ at + 4 ≤ length (now s) ⌝ }
+    ensures { λ r. ⌜ Word (now (s .entry)) at r ⌝ }
 {
-    std::num::wrapping_sub_u32(b as u32, 128)
+    wide(s[at]) + wide(s[at + 1]) * 0x100 + wide(s[at + 2]) * 0x10000 + wide(s[at + 3]) * 0x1000000
 }
 
-// The code of a symbol up to last, and 0 where there is none.
+// The code of a symbol up to last, and 0 where there is none: the first byte is f1, the others are 80 to bf.
 fn symbol(s: &[u8], at: usize, last: u32) -> u16
     requires { ⌜ (at + 4 ≤ length (now s)) × (last ≤ 65535) ⌝ }
     ensures { λ r. ⌜ SureValue 4 (character 0x40000 1 last) (now (s .entry)) at r ⌝ }
 {
-    let x = tail(s[at + 1]);
-    let y = tail(s[at + 2]);
-    let z = tail(s[at + 3]);
-    if s[at] != 0xf1 {
+    let d = std::num::wrapping_sub_u32(word(s, at), 0x808080f1);
+    if d % 0x100 != 0 {
         return 0;
     }
-    if 63 < x {
+    if d / 0x4000 % 4 != 0 {
         return 0;
     }
-    if 63 < y {
+    if d / 0x400000 % 4 != 0 {
         return 0;
     }
-    if 63 < z {
+    if d / 0x40000000 != 0 {
         return 0;
     }
-    let code = x * 4096 + y * 64 + z;
+    let code = d / 0x100 % 64 * 4096 + d / 0x10000 % 64 * 64 + d / 0x1000000;
     if last < code {
         return 0;
     }
     code as u16
 }
 
-// A marker or a number as its distance from the marker A, and 0 where there is none.
+// A marker or a number as its distance from the marker A, and 0 where there is none: the bytes are f0, 9d, a0 to a7, 80 to bf.
 fn marker_or_number(s: &[u8], at: usize) -> u16
     requires { ⌜ at + 4 ≤ length (now s) ⌝ }
     ensures { λ r. ⌜ SureValue 4 (character 0x1d800 1 511) (now (s .entry)) at r ⌝ }
 {
-    let y = tail(s[at + 2]);
-    let z = tail(s[at + 3]);
-    if s[at] != 0xf0 {
+    let d = std::num::wrapping_sub_u32(word(s, at), 0x80a09df0);
+    if d % 0x10000 != 0 {
         return 0;
     }
-    if s[at + 1] != 0x9d {
+    if d / 0x80000 % 32 != 0 {
         return 0;
     }
-    if y < 32 {
+    if d / 0x40000000 != 0 {
         return 0;
     }
-    if 39 < y {
-        return 0;
-    }
-    if 63 < z {
-        return 0;
-    }
-    ((y - 32) * 64 + z) as u16
+    (d / 0x10000 % 8 * 64 + d / 0x1000000) as u16
 }
 
 // The coordinate that follows a code or a marker.

@@ -28,21 +28,31 @@ fn put(to: &mut [u16; 229], at: usize, from: &[u16])
     }
 }
 
-// Lays a sign out that was read into arrays. Only what was read is copied, onto zeros: a wide copy of numbers just stored one
-// by one would wait for them.
-fn put_sign(sign: &mut [u16; 229], h: Head, prefix: &[u16], codes: &[u16], xs: &[u16], ys: &[u16])
-    requires { ⌜ Counted h (now prefix) (now codes) (now xs) (now ys) ⌝ }
+// Lays a sign out that was read into arrays. The zeros say the array's length, and cost nothing: all are written over.
+fn put_sign(
+    sign: &mut [u16; 229],
+    h: Head,
+    prefix: &[u16; 32],
+    codes: &[u16; 64],
+    xs: &[u16; 64],
+    ys: &[u16; 64],
+)
+    requires { ⌜ Counted h ⌝ }
     ensures { λ _. ⌜ now (sign .exit) ≡ signNumbers (signIn h (now (prefix .entry)) (now (codes .entry)) (now (xs .entry)) (now (ys .entry))) ⌝ }
 {
-    let p = h.prefix_count;
-    let n = h.symbol_count;
-    let head = [h.marker, h.max_x, h.max_y, p as u16, n as u16];
+    let head = [
+        h.marker,
+        h.max_x,
+        h.max_y,
+        h.prefix_count as u16,
+        h.symbol_count as u16,
+    ];
     *sign = [0u16; 229];
     put(sign, 0, &head);
-    put(sign, 5, &prefix[..p]);
-    put(sign, 37, &codes[..n]);
-    put(sign, 101, &xs[..n]);
-    put(sign, 165, &ys[..n]);
+    put(sign, 5, prefix);
+    put(sign, 37, codes);
+    put(sign, 101, xs);
+    put(sign, 165, ys);
 }
 
 // Reads a sign into 229 numbers: marker, maximum x and y, prefix count, symbol count, 32 prefix codes, then 64 codes, 64 x

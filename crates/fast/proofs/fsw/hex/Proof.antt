@@ -1,7 +1,7 @@
 use mathlib.Core.Logic.{⊎-elim}
 use mathlib.Core.Path.{_∙_}
 use native.Mathlib.Omega.{arith}
-use Rattle.fast.proofs.Digits.{ten, six, hex-none}
+use Rattle.fast.proofs.Digits.{ten, six, none}
 use borrow.Author.Needs.{needs}
 use Rattle.fast.proofs.fsw.hex.Statement.{statement}
 use Rattle.fast.proofs.fsw.hex.Tie as tie
@@ -16,12 +16,14 @@ add-v : tie.Need-add-v
 add-v c = search needs
 
 returns : tie.Need-returns
-returns c = ten 16 _ _ (omega arith) (omega arith) (c .if2 .taken) (c .before .before .before .wrapping-sub-u32 .ensures)
+returns c = (ten _ _ (c .if2 .taken) (c .before .before .before .wrapping-sub-u32 .ensures), search needs)
 
 returns-2 : tie.Need-returns-2
-returns-2 c =
-    ⊎-elim (λ w. w .1 ∙ six _ (c .before .before .wrapping-sub-u322 .result) (w .0 .taken) (c .before .before .wrapping-sub-u322 .ensures))
-    (λ w. w .1 ∙ hex-none _ (c .before .before .before .wrapping-sub-u32 .result) (c .before .before .wrapping-sub-u322 .result) (omega arith) (omega arith) (c .if2 .left) (w .0 .left) (c .before .before .before .wrapping-sub-u32 .ensures) (c .before .before .wrapping-sub-u322 .ensures)) (c .before .if1 .came)
+returns-2 c = (
+  ⊎-elim (λ w. w .1 ∙ six _ (c .before .before .wrapping-sub-u322 .result) (w .0 .taken) (c .before .before .wrapping-sub-u322 .ensures))
+      (λ w. w .1 ∙ none _ (c .before .before .before .wrapping-sub-u32 .result) (c .before .before .wrapping-sub-u322 .result) (omega arith) (omega arith) (c .if2 .left) (w .0 .left) (c .before .before .before .wrapping-sub-u32 .ensures) (c .before .before .wrapping-sub-u322 .ensures)) (c .before .if1 .came),
+  ⊎-elim (λ w. omega (arith, w .0 .taken, w .1)) (λ w. omega (arith, w .1)) (c .before .if1 .came),
+)
 
 pub hex-spec : {M : Type 1} → statement M
 hex-spec =

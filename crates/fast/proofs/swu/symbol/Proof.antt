@@ -4,35 +4,11 @@ use borrow.Author.Needs.{needs}
 use Rattle.fast.proofs.swu.symbol.Statement.{statement}
 use Rattle.fast.proofs.swu.symbol.Tie as tie
 
-add-tail : tie.Need-add-tail
-add-tail c = search needs
+word-requires : tie.Need-word-requires
+word-requires c κs = search needs
 
-shared-slice-read-tail : tie.Need-shared-slice-read-tail
-shared-slice-read-tail c = search needs
-
-tail-requires : tie.Need-tail-requires
-tail-requires c κs = search needs
-
-add-tail-2 : tie.Need-add-tail-2
-add-tail-2 c = search needs
-
-shared-slice-read-tail-2 : tie.Need-shared-slice-read-tail-2
-shared-slice-read-tail-2 c = search needs
-
-tail-requires-2 : tie.Need-tail-requires-2
-tail-requires-2 c κs = search needs
-
-add-tail-3 : tie.Need-add-tail-3
-add-tail-3 c = search needs
-
-shared-slice-read-tail-3 : tie.Need-shared-slice-read-tail-3
-shared-slice-read-tail-3 c = search needs
-
-tail-requires-3 : tie.Need-tail-requires-3
-tail-requires-3 c κs = search needs
-
-shared-slice-read-if1 : tie.Need-shared-slice-read-if1
-shared-slice-read-if1 c = search needs
+wrapping-sub-u32-requires : tie.Need-wrapping-sub-u32-requires
+wrapping-sub-u32-requires c κs = search needs
 
 returns : tie.Need-returns
 returns c = no-value
@@ -65,22 +41,14 @@ cast-result : tie.Need-cast-result
 cast-result c = search needs
 
 returns-6 : tie.Need-returns-6
-returns-6 c = symbol-sure _ _ (c .before .before .before .before .before .before .before .before .before .before .before .before .before .pre .0) _ _ (c .before .before .before .before .before .before .before .before .tail2 .ensures) (c .before .before .before .before .before .before .tail3 .ensures) (c .before .if4 .left) _ _ (c .before .before .before .before .before .before .before .before .before .before .tail .ensures) (c .before .before .before .before .if1 .left) (c .before .before .before .if2 .left) (c .before .before .if3 .left) (c .if5 .left)
+returns-6 c = symbol-sure _ _ (c .before .before .before .before .before .before .before .before .pre .0) _ _ (c .before .before .before .before .before .before .word .ensures) _ (c .before .before .before .before .before .wrapping-sub-u32 .ensures) (c .before .before .before .before .if1 .left) (c .before .before .before .if2 .left) (c .before .before .if3 .left) (c .before .if4 .left) (c .if5 .left)
 
 pub symbol-spec : {M : Type 1} → statement M
 symbol-spec =
     tie.close
     (tie.spec
-    add-tail
-    shared-slice-read-tail
-    tail-requires
-    add-tail-2
-    shared-slice-read-tail-2
-    tail-requires-2
-    add-tail-3
-    shared-slice-read-tail-3
-    tail-requires-3
-    shared-slice-read-if1
+    word-requires
+    wrapping-sub-u32-requires
     returns
     returns-2
     returns-3
