@@ -4,11 +4,11 @@ use mathlib.Core.Path.{_≡_, refl, sym, ap, _∙_}
 use mathlib.Core.Bool.{Bool, true, false, _||_}
 use mathlib.Core.List.{List, [], _∷_, _++_, map}
 use native.Mathlib.Numerals.{add-one}
-use Rattle.format.specs.Format.{choose}
+use Rattle.format.specs.Format.{choose, keep}
 use Rattle.grammar.specs.Sign.{Spatial}
 use Rattle.writer.specs.Arrays.{upto}
 use Rattle.bounds.specs.declared.groups.Box.{Box}
-use Rattle.bounds.specs.Boxes.{symbolBox, grown, grownAll, Group, groupOf, isHead, isTrunk, keep, groupIn, threeGroups, noGroups, groupsOf}
+use Rattle.bounds.specs.Boxes.{symbolBox, grown, grownAll, Group, groupOf, isHead, isTrunk, groupIn, threeGroups, noGroups, groupsOf}
 use Rattle.bounds.specs.Inner.{grownAt, withSymbol}
 
 pub upto-more : {A : Type 0} (g : ℕ → A) (i : ℕ) → upto g (i + 1) ≡ upto g i ++ (g i ∷ [])

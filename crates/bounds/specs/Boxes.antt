@@ -4,7 +4,7 @@ use mathlib.Core.Bool.{Bool, true, false, _&&_, _||_}
 use mathlib.Core.List.{List, [], _∷_, map}
 use lib.Dec.{leb}
 use lib.ListN.{getD}
-use Rattle.format.specs.Format.{choose}
+use Rattle.format.specs.Format.{keep}
 use Rattle.charset.specs.Tokens.{partsOf}
 use Rattle.grammar.specs.Sign.{Spatial}
 use Rattle.bounds.specs.declared.groups.Box.{Box}
@@ -60,10 +60,6 @@ isHead = baseIn 0x2ff 0x36c
 
 abbrev pub isTrunk : ℕ → Bool
 isTrunk = baseIn 0x36d 0x375
-
-unfoldable pub keep : {A : Type 0} → (A → Bool) → List A → List A
-keep p [] = []
-keep p (a ∷ l) = choose (p a) (a ∷ keep p l) (keep p l)
 
 -- the group of those symbols whose code is picked
 abbrev pub groupIn : (ℕ → Bool) → List ℕ → List Spatial → Group

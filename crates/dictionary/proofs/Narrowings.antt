@@ -1,29 +1,27 @@
 -- What narrowing comes to in each case: one law for each return.
 use Prim.Native.Nat.{ℕ, _-_, _≤_, _<_}
 use mathlib.Core.Path.{_≡_, refl, sym, ap, _∙_}
-use mathlib.Core.List.{List, _++_}
+use mathlib.Core.List.{List}
 use mathlib.Core.Bool.{Bool, true, false, not}
 use native.Mathlib.Omega.{arith}
-use borrow.Author.Tests.{le-leb, lt-leb, leb-true, not-true, not-false}
+use borrow.Author.Tests.{le-leb, lt-leb, not-true, not-false}
 use lib.ListN.{length, take, drop}
-use Rattle.format.specs.Format.{choose}
 use Rattle.charset.specs.declared.Charset.{Charset}
-use Rattle.token.specs.Result.{Result, refusal, done, onDone}
+use Rattle.token.specs.Result.{onDone}
 use Rattle.querygrammar.specs.Query.{Query}
 use Rattle.query.specs.declared.arrays.Head.{Head}
-use Rattle.query.specs.Reading.{queryOf}
 use Rattle.query.specs.Inner.{ReadInto}
 use Rattle.query.proofs.Answers.{Known, not-read, was-read, known}
 use Rattle.matching.specs.Inner.{HoldsQuery}
 use Rattle.verdict.proofs.Answers.{query-read}
-use Rattle.lines.specs.Lines.{lines, ended}
+use Rattle.lines.specs.Lines.{lines, ended, fewLines}
 use Rattle.run.specs.declared.Narrowed.{Narrowed}
-use Rattle.run.specs.Narrowing.{keep, rising, listed, filled, narrowedBy}
+use Rattle.run.specs.Narrowing.{rising, listed, filled, narrowedBy}
 use Rattle.run.proofs.Calls.{query-refused, dictionary-refused, list-refused, line-refused}
 use Rattle.run.proofs.Rising.{listed-most}
 use Rattle.list.specs.Flags.{flagged}
 use Rattle.list.proofs.Flags.{flagged-most, flagged-flags, compacted-done}
-use Rattle.entries.specs.Entries.{fewLines, readable, firstWrong}
+use Rattle.entries.specs.Entries.{readable}
 use Rattle.entries.specs.Judging.{meets, Flagged}
 use Rattle.dictionary.specs.Narrowing.{testOf, dictionaryRefusal, narrowed}
 use Rattle.dictionary.specs.Inner.{NarrowedBy}

@@ -1,10 +1,10 @@
 -- What opening comes to in each case, and how it is answered.
 use Prim.Native.Nat.{ℕ, _≤_, _<_}
-use mathlib.Core.Path.{_≡_, sym, _∙_}
+use mathlib.Core.Path.{_≡_, _∙_}
 use mathlib.Core.List.{List, _++_}
-use mathlib.Core.Bool.{Bool, true, false, not}
+use mathlib.Core.Bool.{true, false}
 use lib.ListN.{length, drop}
-use borrow.Author.Tests.{lt-ltb, le-ltb, le-leb, lt-leb, eq-eqb, ne-eqb, not-true, not-false}
+use borrow.Author.Tests.{lt-ltb, le-ltb, le-leb, lt-leb, eq-eqb, ne-eqb}
 use Rattle.charset.specs.declared.Charset.{Charset}
 use Rattle.token.specs.Result.{Result, refusal, done, output}
 use Rattle.lines.specs.Lines.{lines, ended}
@@ -13,14 +13,6 @@ use Rattle.run.specs.Narrowing.{entriesFrom}
 use Rattle.entries.specs.Entries.{firstWrong}
 use Rattle.dictionary.specs.Opening.{opening, opened}
 use Rattle.run.proofs.Rising.{entries-length}
-
--- what `is_ended` tells
-module _ (d : List ℕ) (b : Bool) (e : b ≡ ended d) where
-  pub is-unended : not b ≡ true → ended d ≡ false
-  is-unended h = sym e ∙ not-true b h
-
-  pub is-whole : not b ≡ false → ended d ≡ true
-  is-whole h = sym e ∙ not-false b h
 
 module _ (set : Charset) (d : List ℕ) where
   pub opening-12 : ended d ≡ false → opening set d ≡ refusal 12 0

@@ -1,4 +1,3 @@
 pub mod Opening
 pub mod Narrowing
 pub mod Inner
-pub mod Fetching

@@ -8,10 +8,10 @@ use Rattle.charset.specs.declared.Charset.{Charset}
 use Rattle.token.specs.Refusal.{dictionaryUnended, tooMany}
 use Rattle.token.specs.Result.{Result, onDone}
 use Rattle.query.specs.Reading.{queryOf}
-use Rattle.lines.specs.Lines.{lines, ended}
+use Rattle.lines.specs.Lines.{lines, ended, fewLines}
 use Rattle.run.specs.declared.Narrowed.{Narrowed}
 use Rattle.run.specs.Narrowing.{rising, narrowedBy}
-use Rattle.entries.specs.Entries.{fewLines, readable}
+use Rattle.entries.specs.Entries.{readable}
 use Rattle.entries.specs.Judging.{meets}
 
 -- a query's refusal, or its test of an entry

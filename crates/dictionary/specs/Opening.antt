@@ -4,10 +4,10 @@ use mathlib.Core.List.{List}
 use lib.ListN.{length}
 use Rattle.charset.specs.declared.Charset.{Charset}
 use Rattle.token.specs.Refusal.{dictionaryUnended, tooMany}
-use Rattle.token.specs.Result.{Result, refusal, done, inRoom}
-use Rattle.lines.specs.Lines.{ended}
+use Rattle.token.specs.Result.{Result, refusal, done, inRoom, check}
+use Rattle.lines.specs.Lines.{ended, fewLines}
 use Rattle.dictionary.specs.declared.Opened.{Opened}
-use Rattle.entries.specs.Entries.{check, fewLines, entriesOf, checkLines}
+use Rattle.entries.specs.Entries.{entriesOf, checkLines}
 
 -- what is written into the list; refused as 12, 14, then 13
 unfoldable pub opening : Charset → List ℕ → Result (List ℕ)

@@ -3,13 +3,13 @@ ghost use mathlib.Core.Path.{_≡_};
 ghost use mathlib.Core.Bool.{true};
 ghost use Prim.Native.Nat.{_≤_};
 ghost use lib.ListN.{length};
-ghost use Rattle.lines.specs.Lines.{lines};
+ghost use Rattle.lines.specs.Lines.{lines, fewLines};
 ghost use Rattle.matching.specs.Inner.{HoldsQuery};
 ghost use Rattle.verdict.specs.Inner.{Asked};
-ghost use Rattle.entries.specs.Entries.{fewLines};
 ghost use Rattle.dictionary.specs.Narrowing.{narrowed};
 ghost use Rattle.dictionary.specs.Inner.{NarrowedBy};
 use charset::Charset;
+use lines::walk::MOST_LINES;
 use lines::walk::count;
 use lines::walk::is_ended;
 use query::arrays::Head;
@@ -56,7 +56,7 @@ fn narrow_by<'a>(
         return not_narrowed(DICTIONARY_UNENDED, 0);
     }
     let lines = count(dict);
-    if crate::MOST_LINES < lines {
+    if MOST_LINES < lines {
         return not_narrowed(TOO_MANY, 0);
     }
     if !list::entries::is_rising(list, n, lines) {

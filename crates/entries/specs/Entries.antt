@@ -1,24 +1,15 @@
 -- The entries of a dictionary (document 01, "The dictionary and its list"): entry e is line e, counted from 1.
-use Prim.Native.Nat.{ℕ, zero, suc}
-use mathlib.Core.List.{List, [], _∷_}
+use Prim.Native.Nat.{ℕ}
+use mathlib.Core.List.{List}
 use mathlib.Core.Bool.{Bool, true, false}
-use lib.Dec.{eqb, leb}
+use lib.Dec.{eqb}
 use lib.ListN.{length}
-use Rattle.format.specs.Format.{choose}
 use Rattle.charset.specs.declared.Charset.{Charset}
 use Rattle.token.specs.Refusal.{lineWrong}
-use Rattle.token.specs.Result.{Result, refusal, done}
+use Rattle.token.specs.Result.{Result, refusal, done, check}
 use Rattle.reader.specs.Signs.{signOf}
 use Rattle.run.specs.Narrowing.{upTo, firstBad}
 use Rattle.lines.specs.Lines.{lines, lineOf}
-
--- refused with this number and place, unless the test holds
-abbrev pub check : {A : Type 0} → Bool → ℕ → ℕ → Result A → Result A
-check test number place r = choose test r (refusal number place)
-
--- at most 65,535 lines
-abbrev pub fewLines : List ℕ → Bool
-fewLines dict = leb (length (lines dict)) 65535
 
 -- 1 to the line count
 abbrev pub entriesOf : List ℕ → List ℕ

@@ -2,15 +2,12 @@
 use Prim.Native.Nat.{ℕ, zero, suc, _+_, _-_, _*_, _/_, _%_, _^_, _≤_, _<_}
 use mathlib.Core.List.{List, [], _∷_, _++_}
 use mathlib.Core.Path.{_≡_, refl, sym, ap, _∙_, subst}
-use lib.Dec.{ltb}
 use lib.ListN.{length, getD, take, drop}
 use lib.Seq.{drop-cons, drop-drop, take-add}
 use native.Mathlib.Omega.{arith}
-use borrow.Author.Tests.{ltb-false}
 use Rattle.format.specs.Format.{Format, sequence}
 use Rattle.charset.specs.Bytes.{digitByte, digits, markerOf, markerByte, after}
 use Rattle.charset.specs.Tokens.{Tokens, fsw, fswNumber, lastLocation, base, turn, key, keyOf}
-use Rattle.charset.proofs.Coding.{by-test}
 use Rattle.charset.proofs.Keys.{parts-of-key}
 use Rattle.grammar.specs.Sign.{point, placed, prefixSymbol, head}
 use Rattle.fast.specs.declared.fsw.Placed.{Placed}
@@ -67,15 +64,15 @@ module _ (s : List ℕ) where
       bytes-then 1 2 at (at + 1) (digitByte (v / p) ∷ []) (digitByte (v % p / q) ∷ digitByte (v % p % q) ∷ []) refl
       (byte-at at _ (omega arith) a) (two-digits q lo hi (at + 1) (at + 2) (v % p) (omega arith) (omega arith) b c)
 
-  pub number-sure : (at a b c sum : ℕ) → at + 3 ≤ length s → a ≡ getD s at 0 → SureDigit (getD s (at + 1) 0) b → SureDigit (getD s (at + 2) 0) c → b ≤ 9 → c ≤ 9
-      → sum ≡ a * 100 + b * 10 + c → 4800 + 250 ≤ sum → sum ≤ 4800 + 749 → SureValue 3 fswNumber s at (sum - 4800)
-  number-sure at a b c sum h ea p q hb hc e l u = record {
+  pub number-sure : (at a b c v : ℕ) → at + 3 ≤ length s → a ≡ getD s at 0 → SureDigit (getD s (at + 1) 0) b → SureDigit (getD s (at + 2) 0) c → b ≤ 9 → c ≤ 9
+      → v + (4800 + 250) ≡ a * 100 + b * 10 + c → v ≤ 749 - 250 → SureValue 3 fswNumber s at (250 + v)
+  number-sure at a b c v h ea p q hb hc e u = record {
     is = λ _. let eb = p .is hb in let ec = q .is hc in record {
       valid = (omega arith, omega arith);
-      bytes = three-digits 100 10 250 749 at (sum - 4800) h
-          (decimal (getD s at 0) ((sum - 4800) / 100) (omega arith) (omega arith))
-          (decimal (getD s (at + 1) 0) ((sum - 4800) % 100 / 10) (omega arith) (omega arith))
-          (decimal (getD s (at + 2) 0) ((sum - 4800) % 100 % 10) (omega arith) (omega arith));
+      bytes = three-digits 100 10 250 749 at (250 + v) h
+          (decimal (getD s at 0) ((250 + v) / 100) (omega arith) (omega arith))
+          (decimal (getD s (at + 1) 0) ((250 + v) % 100 / 10) (omega arith) (omega arith))
+          (decimal (getD s (at + 2) 0) ((250 + v) % 100 % 10) (omega arith) (omega arith));
     };
   }
 

@@ -33,6 +33,7 @@ fn hex(b: u8) -> u32
     v
 }
 
+// A byte, to be added up.
 pub fn wide(b: u8) -> u32
     ensures is { λ r. ⌜ r ≡ b ⌝ }
     ensures small { λ r. ⌜ r < 256 ⌝ }
@@ -74,14 +75,11 @@ fn number(s: &[u8], at: usize) -> u16
     if 9 < c {
         return 0;
     }
-    let sum = wide(s[at]) * 100 + b * 10 + c;
-    if sum < 4800 + 250 {
+    let above = std::num::wrapping_sub_u32(wide(s[at]) * 100 + b * 10 + c, 4800 + 250);
+    if 749 - 250 < above {
         return 0;
     }
-    if 4800 + 749 < sum {
-        return 0;
-    }
-    (sum - 4800) as u16
+    (250 + above) as u16
 }
 
 // The code of a symbol key with a base of at most top, and 0 where there is none.

@@ -131,6 +131,11 @@ abbrev pub All : {A : Type 0} → (A → Type 0) → List A → Type 0
 All P [] = Unit
 All P (a ∷ l) = P a × All P l
 
+-- those of a list that pass a test, in their order
+unfoldable pub keep : {A : Type 0} → (A → Bool) → List A → List A
+keep test [] = []
+keep test (a ∷ l) = choose (test a) (a ∷ keep test l) (keep test l)
+
 abbrev pub FollowAll : {A : Type 0} → Format A → List A → List ℕ → Type 0
 FollowAll f [] rest = Absent rest (f .read rest)
 FollowAll f (a ∷ l) rest = FollowAll f l rest × f .Follow a (writeAll f l ++ rest)

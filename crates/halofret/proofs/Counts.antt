@@ -13,7 +13,7 @@ use Rattle.sign.proofs.Readings.{reading-done}
 use Rattle.sign.proofs.Transcribing.{sign-within}
 use Rattle.halofret.specs.Layouts.{readingNumbers, signNumbers, signLeft}
 use Rattle.halofret.specs.Inner.{signIn, Counted}
-use Rattle.halofret.proofs.Left.{when-done, when-refused}
+use Rattle.halofret.proofs.Left.{when-refused}
 
 module _ (set : Charset) (text : List ℕ) (h : Head) (prefix codes xs ys : List ℕ) (v : ReadInto set text h prefix codes xs ys) where
   pub counted : h .number ≡ 0 → Counted h

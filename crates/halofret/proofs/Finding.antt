@@ -9,9 +9,9 @@ use borrow.Author.Tests.{le-leb, lt-leb}
 use Rattle.token.specs.Result.{Result, refusal, done}
 use Rattle.lines.specs.Lines.{lines, lineOf, lineStart}
 use Rattle.lines.proofs.Starts.{Line}
-use Rattle.dictionary.specs.declared.Refusal.{Refusal}
-use Rattle.dictionary.specs.Fetching.{Entry, fetching, refusalAs}
-use Rattle.dictionary.proofs.Fetches.{Accepted}
+use Rattle.fetching.specs.declared.Refusal.{Refusal}
+use Rattle.fetching.specs.Fetching.{Entry, fetching, refusalAs}
+use Rattle.fetching.proofs.Fetches.{Accepted}
 use Rattle.halofret.specs.Dictionaries.{lineNumbers, fetchedNumbers}
 
 pub line-told : (which : ℕ) (d : List ℕ) (k a e : ℕ) → a ≡ lineStart d k → Line d k a e → (0 ∷ which ∷ a ∷ (e - a) ∷ []) ≡ lineNumbers which d k

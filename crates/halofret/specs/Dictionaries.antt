@@ -6,7 +6,7 @@ use Rattle.token.specs.Result.{Result, refusal, done}
 use Rattle.lines.specs.Lines.{lineOf, lineStart}
 use Rattle.run.specs.declared.Narrowed.{Narrowed}
 use Rattle.dictionary.specs.declared.Opened.{Opened}
-use Rattle.dictionary.specs.Fetching.{Entry, inFirst, inSecond}
+use Rattle.fetching.specs.Fetching.{Entry, inFirst, inSecond}
 
 abbrev pub openedNumbers : Opened → List ℕ
 openedNumbers o = o .number ∷ o .place ∷ o .lines ∷ []

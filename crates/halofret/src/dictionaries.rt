@@ -6,7 +6,7 @@ ghost use Rattle.token.specs.Result.{output};
 ghost use Rattle.lines.specs.Lines.{lines};
 ghost use Rattle.dictionary.specs.Opening.{opening, opened};
 ghost use Rattle.dictionary.specs.Narrowing.{narrowed};
-ghost use Rattle.dictionary.specs.Fetching.{fetching};
+ghost use Rattle.fetching.specs.Fetching.{fetching};
 ghost use Rattle.halofret.specs.Layouts.{setOf};
 ghost use Rattle.halofret.specs.Dictionaries.{openedNumbers, narrowedNumbers, lineNumbers, fetchedNumbers};
 use super::numbers::set_of;
@@ -63,7 +63,7 @@ fn line_numbers(which: u64, d: &[u8], k: usize) -> [u64; 4]
 pub extern "C" fn halofret_fetch(first: &[u8], second: &[u8], number: usize, answer: &mut [u64; 4])
     ensures { λ _. ⌜ now (answer .exit) ≡ fetchedNumbers (now (first .entry)) (now (second .entry)) (fetching (now (first .entry)) (now (second .entry)) number) ⌝ }
 {
-    let refused = dictionary::fetch_refusal(first, second, number).number;
+    let refused = fetching::fetch_refusal(first, second, number).number;
     if refused != DONE {
         *answer = [refused as u64, 0, 0, 0];
         return;

@@ -1,14 +1,14 @@
 -- The end of bytes, and the end of the first line.
 use Prim.Native.Nat.{ℕ, suc, _+_, _-_, _≤_, _<_}
-use mathlib.Core.Path.{_≡_, refl, ap}
+use mathlib.Core.Path.{_≡_, refl, sym, ap, _∙_}
 use mathlib.Core.List.{List, [], _∷_}
-use mathlib.Core.Bool.{Bool, true, false}
+use mathlib.Core.Bool.{Bool, true, false, not}
 use lib.Dec.{eqb}
 use lib.ListN.{length, drop, getD, drop-of-length-le}
 use lib.Seq.{drop-cons}
 use native.Mathlib.Omega.{arith}
 use native.Mathlib.Numerals.{add-one}
-use borrow.Author.Tests.{eq-eqb, ne-eqb}
+use borrow.Author.Tests.{eq-eqb, ne-eqb, not-true, not-false}
 use Rattle.format.specs.Format.{choose}
 use Rattle.lines.specs.Lines.{ended, firstLine}
 
@@ -48,3 +48,11 @@ module _ (d : List ℕ) (i e : ℕ) (h : i + length (firstLine (drop i d)) ≡ e
 
   pub end-none : length d ≤ i → i ≡ e
   end-none l = omega (arith, ap length (first-none d i l))
+
+-- what `is_ended` tells
+module _ (d : List ℕ) (b : Bool) (e : b ≡ ended d) where
+  pub is-unended : not b ≡ true → ended d ≡ false
+  is-unended h = sym e ∙ not-true b h
+
+  pub is-whole : not b ≡ false → ended d ≡ true
+  is-whole h = sym e ∙ not-false b h

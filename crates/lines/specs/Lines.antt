@@ -2,7 +2,7 @@
 use Prim.Native.Nat.{ℕ, _+_, _-_}
 use mathlib.Core.List.{List, [], _∷_, _++_}
 use mathlib.Core.Bool.{Bool, true, false}
-use lib.Dec.{eqb}
+use lib.Dec.{eqb, leb}
 use lib.ListN.{length, take, getD}
 use denote.Ref.{RefT}
 use Rattle.format.specs.Format.{choose}
@@ -22,6 +22,10 @@ lines (b ∷ bytes) = byteBefore (eqb b 10) b (lines bytes)
 unfoldable pub ended : List ℕ → Bool
 ended [] = true
 ended (b ∷ bytes) = eqb (getD (b ∷ bytes) (length bytes) 0) 10
+
+-- at most 65,535 lines
+abbrev pub fewLines : List ℕ → Bool
+fewLines bytes = leb (length (lines bytes)) 65535
 
 -- lines as bytes, each with its byte 10
 unfoldable pub bytesOf : List (List ℕ) → List ℕ

@@ -4,6 +4,9 @@ ghost use Prim.Native.Nat.{_+_, _≤_};
 ghost use lib.ListN.{length, take, drop};
 ghost use Rattle.lines.specs.Lines.{lines, ended, firstLine, lineOf, lineStart, placeIn};
 
+// of one dictionary
+pub const MOST_LINES: usize = 65535;
+
 // No bytes, or the last is 10.
 pub fn is_ended(d: &[u8]) -> bool
     ensures { λ r. ⌜ r ≡ ended (now (d .entry)) ⌝ }

@@ -8,9 +8,9 @@ use native.Mathlib.Omega.{arith}
 use borrow.Author.Tests.{lt-ltb, le-ltb}
 use lib.ListN.{length, getD, take, drop, set, length-take, length-map}
 use lib.Seq.{drop-cons, take-suc, set-at, getD-take, length-take-le}
-use Rattle.format.specs.Format.{choose}
+use Rattle.format.specs.Format.{choose, keep}
 use Rattle.token.specs.Result.{Result, done}
-use Rattle.run.specs.Narrowing.{keep, listed, firstBad, filled, narrowedBy}
+use Rattle.run.specs.Narrowing.{listed, firstBad, filled, narrowedBy}
 use Rattle.run.proofs.Calls.{call-done}
 use Rattle.list.specs.Flags.{isSet, flagged, flagOf, flagsOf}
 

@@ -1,7 +1,7 @@
 -- A query and a sign that lie in lent arrays, and what the functions that judge them answer.
 use Prim.Native.Nat.{ℕ, _%_, _≤_}
 use mathlib.Core.Path.{_≡_}
-use mathlib.Core.List.{List, [], map}
+use mathlib.Core.List.{List, map}
 use mathlib.Core.Bool.{Bool, true, _&&_, _||_}
 use lib.Dec.{leb, ltb, eqb}
 use lib.ListN.{length}
@@ -12,7 +12,7 @@ use Rattle.grammar.specs.Sign.{Spatial, Meaning, Number}
 use Rattle.reader.specs.Signs.{padded}
 use Rattle.reader.specs.Inner.{HoldsSymbols}
 use Rattle.writer.specs.Arrays.{at}
-use Rattle.querygrammar.specs.Query.{Item, keyItem, rangeItem, Prefix, free, present, begins, Sought, Query, itemsOf, kindOf}
+use Rattle.querygrammar.specs.Query.{Item, keyItem, rangeItem, Sought, Query, itemsOf, kindOf}
 use Rattle.queryitem.specs.declared.reading.Numbers.{Numbers}
 use Rattle.queryitem.specs.Numbers.{numbersOf, bare}
 use Rattle.matching.specs.declared.Verdict.{Verdict}

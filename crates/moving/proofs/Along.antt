@@ -6,10 +6,10 @@ use mathlib.Core.List.{List, [], _∷_, map}
 use native.Mathlib.Omega.{arith}
 use lib.IntN.{subℕ}
 use lib.ListN.{length}
-use Rattle.format.specs.Format.{choose}
+use Rattle.format.specs.Format.{choose, keep}
 use Rattle.grammar.specs.Sign.{Spatial}
 use Rattle.bounds.specs.declared.groups.Box.{Box}
-use Rattle.bounds.specs.Boxes.{widthOf, heightOf, symbolBox, grown, grownAll, Group, groupOf, isHead, isTrunk, keep, groupIn, groupsOf}
+use Rattle.bounds.specs.Boxes.{widthOf, heightOf, symbolBox, grown, grownAll, Group, groupOf, isHead, isTrunk, groupIn, groupsOf}
 use Rattle.bounds.specs.Centre.{chosenBox}
 use Rattle.moving.specs.Moves.{stays, allOf, movedSymbol}
 use Rattle.moving.proofs.Numbers.{stays-along}

@@ -1,16 +1,16 @@
 -- Where the next unit decides: a choice and an optional part, by whether their first unit is there.
-use Prim.Native.Nat.{ℕ, _+_, _-_, _≤_, _<_}
+use Prim.Native.Nat.{ℕ, _-_, _≤_, _<_}
 use mathlib.Core.List.{List, [], _∷_}
 use mathlib.Core.Path.{_≡_, refl, sym, ap, _∙_}
 use mathlib.Core.Logic.{_⊎_, inl, inr}
 use mathlib.Core.Option.{Option, none, some}
-use lib.ListN.{length, drop, length-drop, drop-of-length-le}
+use lib.ListN.{length, drop, drop-of-length-le}
 use lib.Seq.{drop-cons}
 use native.Mathlib.Omega.{arith}
-use Rattle.format.specs.Format.{Answer, value, other, wrong, short, Format, first, second, unit, sequence, mapped, optional, either, orElse, maybe}
+use Rattle.format.specs.Format.{Answer, value, other, wrong, short, Format, first, second, sequence, optional, either, orElse, maybe}
 use Rattle.format.specs.Located.{Located, found, wrongAt, cut, located, locate, andThen, onFound}
 use Rattle.format.proofs.Delimited.{Delimited, unit-alone}
-use Rattle.format.proofs.At.{Got, delimited-got, Wronged, here, later, wronged, sequence-at, mapped-at}
+use Rattle.format.proofs.At.{Wronged, here, later, wronged, sequence-at, mapped-at}
 use Rattle.charset.specs.Bytes.{byteOf, byte, digitOf, digitByte, digit, after}
 use Rattle.charset.proofs.Units.{byte-delimited, digit-delimited}
 

@@ -1,15 +1,15 @@
 -- The query is lawful, and each of its parts may be followed by what follows it.
-use Prim.Native.Nat.{ℕ, zero, suc, _+_, _-_, _*_, _≤_, _<_, min}
+use Prim.Native.Nat.{ℕ, _+_, _-_, _*_, _≤_, _<_, min}
 use mathlib.Core.List.{List, [], _∷_, _++_, append-assoc}
-use mathlib.Core.Path.{_≡_, refl, sym, ap, _∙_}
+use mathlib.Core.Path.{_≡_, refl, ap, _∙_}
 use mathlib.Core.Bool.{Bool, true, false}
-use mathlib.Core.Logic.{_⊎_, inl, inr}
+use mathlib.Core.Logic.{inl, inr}
 use mathlib.Core.Option.{Option, none, some}
 use lib.Dec.{ltb}
-use lib.ListN.{length, length-append}
+use lib.ListN.{length-append}
 use native.Mathlib.Omega.{arith}
 use borrow.Author.Tests.{ltb-true, ltb-false, lt-ltb, le-ltb}
-use Rattle.format.specs.Format.{value, other, Format, first, second, sequence, mapped, optional, many, either, orElse, Absent, FollowAll}
+use Rattle.format.specs.Format.{value, other, Format, first, second, sequence, optional, many, either, orElse, Absent, FollowAll}
 use Rattle.format.proofs.Lawful.{Lawful}
 use Rattle.format.proofs.Sequence.{sequence-lawful}
 use Rattle.format.proofs.Parts.{mapped-lawful, optional-lawful, either-lawful}
@@ -19,11 +19,11 @@ use Rattle.format.proofs.Delimited.{Delimited, sequence-delimited, either-delim
 use Rattle.charset.specs.Bytes.{digitOf, byteOf, digitByte, byte, digit, digits, after}
 use Rattle.charset.specs.Tokens.{fsw, fswNumber}
 use Rattle.charset.proofs.Units.{byte-delimited, digit-delimited, after-delimited}
-use Rattle.charset.proofs.Keys.{base-delimited, number-delimited}
+use Rattle.charset.proofs.Keys.{base-delimited}
 use Rattle.charset.proofs.Sets.{fsw-lawful}
 use Rattle.grammar.proofs.Sign.{all-follow, absent-other, sequence-other, point-fixed}
-use Rattle.querygrammar.specs.Query.{queryBase, orAny, openDigits, keyTail, rangeEnd, rangeTail, ItemText, item, coordinate, SoughtText, signboxItem, someItems, prefixItems, HeadText, head, laterFigures, Figures, figures, variance, TailText, tail, QueryText, afterQ, query}
-use Rattle.querygrammar.proofs.Open.{Open, delimited-open}
+use Rattle.querygrammar.specs.Query.{queryBase, orAny, openDigits, keyTail, rangeEnd, rangeTail, ItemText, item, coordinate, SoughtText, signboxItem, someItems, prefixItems, HeadText, head, laterFigures, Figures, figures, variance, tail, QueryText, afterQ, query}
+use Rattle.querygrammar.proofs.Open.{Open}
 use Rattle.querygrammar.proofs.Begun.{after-other}
 
 -- BYTES THAT ARE NOT THE ONE ASKED FOR

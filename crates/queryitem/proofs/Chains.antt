@@ -1,9 +1,8 @@
 -- Parts that are read one after the other: where one fails, the whole fails alike.
-use Prim.Native.Nat.{ℕ, _+_, _≤_}
+use Prim.Native.Nat.{ℕ, _+_}
 use mathlib.Core.List.{List, [], _∷_}
 use mathlib.Core.Path.{_≡_, refl, sym, ap, _∙_}
 use mathlib.Core.Logic.{inl, inr}
-use lib.ListN.{length}
 use native.Mathlib.Omega.{arith}
 use Rattle.format.specs.Format.{Format}
 use Rattle.format.specs.Located.{Located, found, wrongAt, cut, locate, andThen, onFound}

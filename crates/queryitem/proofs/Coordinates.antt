@@ -2,34 +2,33 @@
 use Prim.Native.Nat.{ℕ, _+_, _-_, _≤_, _<_}
 use mathlib.Core.List.{List, [], _∷_}
 use mathlib.Core.Path.{_≡_, refl, sym, ap, _∙_}
-use mathlib.Core.Logic.{_⊎_, inl, inr}
+use mathlib.Core.Logic.{inl, inr}
 use mathlib.Core.Option.{Option, none, some}
 use lib.ListN.{length, drop}
 use native.Mathlib.Omega.{arith}
 use types.Run.{OneOf}
 use denote.Enum.Declared.{tagOf}
-use Rattle.format.specs.Format.{other, Format, sequence, optional}
+use Rattle.format.specs.Format.{other, Format, optional}
 use Rattle.format.specs.Located.{Located, found, wrongAt, cut, locate, andThen, onFound}
-use Rattle.format.proofs.Delimited.{Delimited}
-use Rattle.format.proofs.At.{Got, delimited-got, sequence-at, cut-reads}
+use Rattle.format.proofs.At.{delimited-got, sequence-at, cut-reads}
 use Rattle.format.proofs.Ends.{optional-begun, optional-none, optional-bad, optional-cut}
 use Rattle.charset.specs.Tokens.{fsw}
 use Rattle.charset.proofs.Sets.{fsw-lawful}
 use Rattle.token.specs.declared.reading.Token.{Token}
 use Rattle.token.specs.declared.reading.Token.the-variants as token
-use Rattle.token.specs.Token.{told, tokenAt}
+use Rattle.token.specs.Token.{tokenAt}
 use Rattle.token.proofs.Told.{Fails, Told, told-at}
-use Rattle.querygrammar.specs.Query.{ItemText, item, coordinate, SoughtText, signboxItem, itemOf, soughtOf}
-use Rattle.querygrammar.proofs.Open.{Open, delimited-open, Strays, here, later, strays}
+use Rattle.querygrammar.specs.Query.{ItemText, item, coordinate, SoughtText, signboxItem, soughtOf}
+use Rattle.querygrammar.proofs.Open.{delimited-open, Strays, here, later, strays}
 use Rattle.querygrammar.proofs.Begun.{optional-over}
 use Rattle.querygrammar.proofs.Query.{item-delimited, coordinate-delimited}
 use Rattle.queryitem.specs.declared.reading.Numbers.{Numbers}
 use Rattle.queryitem.specs.declared.reading.Piece.{Piece}
 use Rattle.queryitem.specs.declared.reading.Piece.the-variants.{Found, Wrong, Short}
-use Rattle.queryitem.specs.Numbers.{bare, numbersOf}
+use Rattle.queryitem.specs.Numbers.{numbersOf}
 use Rattle.queryitem.specs.Pieces.{failedAs, toldPiece, pieceAt, placed}
 use Rattle.queryitem.proofs.reading.Piece.{the-type}
-use Rattle.queryitem.proofs.Chains.{Carries, failed-token, found-piece, piece-is, wrong-token, short-token}
+use Rattle.queryitem.proofs.Chains.{failed-token, found-piece, piece-is, wrong-token, short-token}
 use Rattle.queryitem.proofs.Keys.{itemNumbers}
 
 abbrev number : Format ℕ

@@ -1,19 +1,18 @@
 -- Open digits, keys, ranges and items: one law for each return.
-use Prim.Native.Nat.{ℕ, _+_, _-_, _*_, _%_, _≤_, _<_}
+use Prim.Native.Nat.{ℕ, _+_, _-_, _≤_}
 use mathlib.Core.List.{List, [], _∷_}
 use mathlib.Core.Path.{_≡_, refl, sym, ap, _∙_}
 use mathlib.Core.Logic.{_⊎_, inl, inr}
-use mathlib.Core.Option.{Option, none, some}
-use lib.Dec.{eqb}
+use mathlib.Core.Option.{none, some}
 use lib.ListN.{length, drop}
 use native.Mathlib.Omega.{arith}
 use borrow.Author.Tests.{eq-eqb, ne-eqb}
 use types.Run.{OneOf}
 use denote.Enum.Declared.{tagOf}
-use Rattle.format.specs.Format.{Format, sequence, either}
+use Rattle.format.specs.Format.{Format}
 use Rattle.format.specs.Located.{Located, found, wrongAt, cut, locate, andThen, onFound}
-use Rattle.format.proofs.Delimited.{Delimited, Fixed}
-use Rattle.format.proofs.At.{Got, fixed-got, delimited-got, sequence-at, either-first, either-second, cut-reads}
+use Rattle.format.proofs.Delimited.{Delimited}
+use Rattle.format.proofs.At.{fixed-got, delimited-got, sequence-at, either-first}
 use Rattle.charset.specs.Bytes.{byte, digit, after}
 use Rattle.charset.proofs.Units.{byte-delimited, digit-delimited, after-delimited}
 use Rattle.token.specs.declared.reading.Token.{Token}
@@ -22,15 +21,15 @@ use Rattle.token.specs.Token.{told, tokenAt}
 use Rattle.token.proofs.reading.Token.{the-type}
 use Rattle.token.proofs.Told.{Fails, Told}
 use Rattle.token.proofs.Keys.{not-wrong}
-use Rattle.querygrammar.specs.Query.{queryBase, orAny, openDigits, keyTail, rangeEnd, rangeTail, ItemText, item, Item, keyItem, rangeItem, openOf, itemOf}
+use Rattle.querygrammar.specs.Query.{queryBase, orAny, openDigits, keyTail, rangeEnd, rangeTail, ItemText, item, keyItem, rangeItem, openOf, itemOf}
 use Rattle.querygrammar.proofs.Begun.{after-at, after-begun, after-other, byte-wrong, digit-wrong, either-begun, either-passed}
-use Rattle.querygrammar.proofs.Query.{query-base-delimited, any-delimited, open-delimited, key-delimited, range-delimited}
+use Rattle.querygrammar.proofs.Query.{query-base-delimited, any-delimited, key-delimited}
 use Rattle.queryitem.specs.declared.reading.Numbers.{Numbers}
 use Rattle.queryitem.specs.declared.reading.Piece.{Piece}
 use Rattle.queryitem.specs.declared.reading.Piece.the-variants.{Found, Wrong, Short}
-use Rattle.queryitem.specs.Numbers.{turnOf, bare}
+use Rattle.queryitem.specs.Numbers.{bare}
 use Rattle.queryitem.specs.Pieces.{openNumber, given, openAt, failedAs, toldPiece, pieceAt}
-use Rattle.queryitem.proofs.Chains.{Carries, carries, carries-on, value-fails, failed-piece, failed-token, found-piece, piece-is, byte-there, base-there, wrong-token, short-token}
+use Rattle.queryitem.proofs.Chains.{carries, carries-on, value-fails, failed-piece, failed-token, found-piece, piece-is, byte-there, wrong-token, short-token}
 
 -- A DIGIT OR U
 

@@ -8,15 +8,16 @@ use borrow.Author.Tests.{eqb-true}
 use lib.Dec.{eqb}
 use lib.ListN.{length}
 use lib.Seq.{take-length}
+use Rattle.format.specs.Format.{keep}
 use Rattle.charset.specs.declared.Charset.the-variants.{Fsw}
-use Rattle.token.specs.Result.{Result, refusal, done}
+use Rattle.token.specs.Result.{Result, refusal, done, check}
 use Rattle.querygrammar.specs.Query.{Query}
 use Rattle.query.specs.Reading.{queryOf}
 use Rattle.query.proofs.Answers.{query-counted}
-use Rattle.lines.specs.Lines.{lines, ended}
-use Rattle.run.specs.Narrowing.{keep, rising, keptBy, narrowing, narrowedBy, answerOf, listAfter}
+use Rattle.lines.specs.Lines.{lines, ended, fewLines}
+use Rattle.run.specs.Narrowing.{rising, keptBy, narrowing, narrowedBy, answerOf, listAfter}
 use Rattle.run.proofs.Rising.{upTo-length, upTo-rising, listed-is}
-use Rattle.entries.specs.Entries.{check, fewLines, entriesOf, readable, firstWrong}
+use Rattle.entries.specs.Entries.{entriesOf, readable, firstWrong}
 use Rattle.entries.specs.Judging.{meets}
 use Rattle.dictionary.specs.Opening.{opening, openedAs}
 use Rattle.dictionary.specs.Narrowing.{testOf, dictionaryRefusal, narrowed}

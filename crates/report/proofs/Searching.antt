@@ -8,17 +8,17 @@ use borrow.Author.Tests.{leb-true, le-ltb, le-leb, lt-leb, eq-eqb, ne-eqb, not-t
 use lib.Dec.{eqb, ltb, leb}
 use lib.ListN.{length, take, drop, length-append, length-take}
 use lib.Seq.{take-append-seam, take-length}
-use Rattle.format.specs.Format.{choose}
+use Rattle.format.specs.Format.{choose, keep}
 use Rattle.charset.specs.declared.Charset.{Charset}
 use Rattle.charset.specs.declared.Charset.the-variants.{Fsw}
 use Rattle.token.specs.Refusal.{listWrong, lineWrong}
-use Rattle.token.specs.Result.{Result, refusal, done, output}
-use Rattle.lines.specs.Lines.{lines, ended}
+use Rattle.token.specs.Result.{Result, refusal, done, output, check}
+use Rattle.lines.specs.Lines.{lines, ended, fewLines}
 use Rattle.run.specs.declared.Narrowed.{Narrowed}
-use Rattle.run.specs.Narrowing.{keep, firstBad, listed, keptBy, narrowing, narrowedBy, answerOf, listAfter, filled}
+use Rattle.run.specs.Narrowing.{firstBad, listed, keptBy, narrowing, narrowedBy, answerOf, listAfter, filled}
 use Rattle.run.proofs.Keeping.{keep-length}
 use Rattle.run.proofs.Rising.{upTo-length}
-use Rattle.entries.specs.Entries.{check, fewLines, entriesOf, firstWrong}
+use Rattle.entries.specs.Entries.{entriesOf, firstWrong}
 use Rattle.dictionary.specs.declared.Opened.{Opened}
 use Rattle.dictionary.specs.Opening.{opening, opened}
 use Rattle.dictionary.specs.Narrowing.{narrowed}

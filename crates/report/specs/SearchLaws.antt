@@ -4,12 +4,12 @@ use mathlib.Core.Path.{_≡_}
 use mathlib.Core.List.{List}
 use mathlib.Core.Bool.{true}
 use lib.ListN.{length}
+use Rattle.format.specs.Format.{keep}
 use Rattle.charset.specs.declared.Charset.the-variants.{Fsw}
 use Rattle.token.specs.Result.{refusal, done}
 use Rattle.querygrammar.specs.Query.{Query}
 use Rattle.query.specs.Reading.{queryOf}
 use Rattle.lines.specs.Lines.{lines}
-use Rattle.run.specs.Narrowing.{keep}
 use Rattle.entries.specs.Entries.{entriesOf}
 use Rattle.entries.specs.Judging.{meets}
 use Rattle.dictionary.specs.Opening.{opening}

@@ -7,11 +7,11 @@ use native.Mathlib.Omega.{arith}
 use borrow.Author.Tests.{lt-ltb}
 use lib.ListN.{length, take, drop, length-append}
 use lib.Seq.{take-append-seam}
-use Rattle.format.specs.Format.{All}
+use Rattle.format.specs.Format.{All, keep}
 use Rattle.token.specs.Result.{Result, refusal, done}
 use Rattle.token.specs.Refusal.{listWrong, lineWrong}
 use Rattle.run.specs.declared.Narrowed.{Narrowed}
-use Rattle.run.specs.Narrowing.{keep, rising, listed, firstBad, keptBy, answerOf, filled, listAfter, narrowedBy}
+use Rattle.run.specs.Narrowing.{rising, listed, firstBad, keptBy, answerOf, filled, listAfter, narrowedBy}
 use Rattle.run.specs.Run.{accepted, passes, left, RunClaims}
 use Rattle.run.proofs.Keeping.{keep-all}
 use Rattle.run.proofs.Rising.{listed-is, rising-keep, none-bad, all-readable}

@@ -5,8 +5,7 @@ use mathlib.Core.List.{List, [], _∷_}
 use mathlib.Core.Bool.{Bool, true, false, _&&_}
 use native.Mathlib.Omega.{arith}
 use lib.ListN.{length}
-use Rattle.format.specs.Format.{choose, All}
-use Rattle.run.specs.Narrowing.{keep}
+use Rattle.format.specs.Format.{choose, All, keep}
 
 pub keep-length : {A : Type 0} (test : A → Bool) (l : List A) → length (keep test l) ≤ length l
 unfolding keep

@@ -9,8 +9,8 @@ use lib.Dec.{ltb, leb}
 use lib.ListN.{length, take}
 use lib.Seq.{length-take-le}
 use native.Mathlib.Nat.{add-zero}
-use Rattle.format.specs.Format.{choose, All}
-use Rattle.run.specs.Narrowing.{keep, entriesFrom, upTo, risingOver, rising, listed, firstBad}
+use Rattle.format.specs.Format.{choose, All, keep}
+use Rattle.run.specs.Narrowing.{entriesFrom, upTo, risingOver, rising, listed, firstBad}
 
 module _ (last count e : ℕ) (entries : List ℕ) where
   pub rising-on : last < e → e ≤ count → risingOver last count (e ∷ entries) ≡ risingOver e count entries

@@ -7,9 +7,10 @@ use native.Mathlib.Omega.{arith}
 use borrow.Author.Tests.{ne-eqb}
 use lib.ListN.{length, replicate}
 use lib.Seq.{drop-append-seam}
+use Rattle.format.specs.Format.{keep}
 use Rattle.token.specs.Result.{Result, refusal, done, onDone}
 use Rattle.run.specs.declared.Narrowed.{Narrowed}
-use Rattle.run.specs.Narrowing.{keep, answerOf, filled, listAfter, narrowing}
+use Rattle.run.specs.Narrowing.{answerOf, filled, listAfter, narrowing}
 use Rattle.run.specs.Run.{nextCount, answering, run, testsOf, accepted, passes, left, total, refusalOf, told, runFrom, RunClaims}
 use Rattle.run.proofs.Filled.{filled-whole, filled-again}
 use Rattle.run.proofs.Keeping.{keep-length, keep-keep, keep-same, keep-every, all-of}

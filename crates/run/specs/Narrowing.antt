@@ -4,15 +4,10 @@ use mathlib.Core.List.{List, [], _∷_, _++_}
 use mathlib.Core.Bool.{Bool, true, not, _&&_}
 use lib.Dec.{ltb, leb}
 use lib.ListN.{length, take, drop, replicate}
-use Rattle.format.specs.Format.{choose}
+use Rattle.format.specs.Format.{choose, keep}
 use Rattle.token.specs.Refusal.{listWrong, lineWrong}
 use Rattle.token.specs.Result.{Result, refusal, done}
 use Rattle.run.specs.declared.Narrowed.{Narrowed}
-
--- those that pass the test, in order
-unfoldable pub keep : {A : Type 0} → (A → Bool) → List A → List A
-keep test [] = []
-keep test (a ∷ l) = choose (test a) (a ∷ keep test l) (keep test l)
 
 -- n entries from k on, and entries 1 to n
 unfoldable pub entriesFrom : ℕ → ℕ → List ℕ

@@ -6,10 +6,10 @@ use mathlib.Core.List.{List, [], _∷_, _++_, map, foldr, Perm}
 use mathlib.Core.Bool.{Bool, true, _&&_}
 use lib.Dec.{eqb}
 use lib.ListN.{length}
-use Rattle.format.specs.Format.{choose}
+use Rattle.format.specs.Format.{choose, keep}
 use Rattle.token.specs.Result.{Result, refusal, done}
 use Rattle.run.specs.declared.Narrowed.{Narrowed}
-use Rattle.run.specs.Narrowing.{keep, filled}
+use Rattle.run.specs.Narrowing.{filled}
 
 -- the list memory after a run, the count for the next call, and what each call answered
 pub record Ended : Type 0 where

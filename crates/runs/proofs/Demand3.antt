@@ -1,13 +1,13 @@
 -- Demand 3, from the claim about runs of any form of call.
 use Prim.Native.Nat.{ℕ, zero, suc, _+_, _-_, _≤_, _<_}
 use mathlib.Core.Path.{_≡_, refl, sym, ap, subst, _∙_}
-use mathlib.Core.List.{List, [], _∷_, _++_, map, Perm}
-use mathlib.Core.Bool.{Bool, true, false, _&&_, true≢false}
+use mathlib.Core.List.{List, [], _∷_, _++_, map}
+use mathlib.Core.Bool.{Bool, true, false, true≢false}
 use native.Mathlib.Omega.{arith}
 use borrow.Author.Tests.{eqb-true, eqb-false, ltb-false, le-ltb}
 use lib.Dec.{eqb, ltb, leb}
 use lib.ListN.{length, getD, drop, length-map}
-use Rattle.format.specs.Format.{choose, All}
+use Rattle.format.specs.Format.{choose, All, keep}
 use Rattle.charset.specs.declared.Charset.{Charset}
 use Rattle.grammar.specs.Sign.{Meaning, signText}
 use Rattle.token.specs.Result.{Result, refusal, done, onDone, output, inRoom}
@@ -17,18 +17,18 @@ use Rattle.sign.proofs.Transcriptions.{transcription-laws}
 use Rattle.querygrammar.specs.Query.{Query}
 use Rattle.query.specs.Reading.{queryOf, readingOf}
 use Rattle.query.proofs.Answers.{query-counted}
-use Rattle.verdict.specs.Verdict.{verdictOn, verdictBy, verdictIn}
-use Rattle.lines.specs.Lines.{lines, ended, firstLine, lineOf, bytesOf}
+use Rattle.verdict.specs.Verdict.{verdictOn, verdictIn}
+use Rattle.lines.specs.Lines.{lines, ended, firstLine, lineOf, fewLines}
 use Rattle.lines.specs.LineLaws.{Plain}
 use Rattle.lines.proofs.Laws.{line-laws}
-use Rattle.run.specs.Narrowing.{keep, entriesFrom, upTo, rising, firstBad, filled, narrowedBy}
-use Rattle.run.specs.Run.{Ended, run, runFrom, testsOf, accepted, passes, left, total, refusalOf, told, RunClaims}
+use Rattle.run.specs.Narrowing.{entriesFrom, upTo, filled}
+use Rattle.run.specs.Run.{run, runFrom, testsOf, accepted, passes, left, total, refusalOf, told, RunClaims}
 use Rattle.run.proofs.Keeping.{keep-same, all-of, all-map}
 use Rattle.run.proofs.Rising.{upTo-length, upTo-rising, rising-keep, rising-within, all-readable, none-bad}
 use Rattle.run.proofs.Runs.{Numbered, done-numbered}
 use Rattle.run.proofs.Calls.{rising-claims}
-use Rattle.run.proofs.Agreement.{EntryOf, Alike, done-alike, rising-runs-agree}
-use Rattle.entries.specs.Entries.{fewLines, entriesOf, isDone, readable, firstWrong}
+use Rattle.run.proofs.Agreement.{EntryOf, done-alike, rising-runs-agree}
+use Rattle.entries.specs.Entries.{entriesOf, isDone, readable, firstWrong}
 use Rattle.entries.specs.Judging.{meets}
 use Rattle.dictionary.specs.Opening.{opening, opened}
 use Rattle.dictionary.specs.Narrowing.{testOf, dictionaryRefusal, narrowed}

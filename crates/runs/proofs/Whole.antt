@@ -1,24 +1,22 @@
 -- From what opening and the run answer to the claim: one law for each return.
 use Prim.Native.Nat.{ℕ, _-_, _≤_}
-use mathlib.Core.Path.{_≡_, refl, sym, ap, _∙_}
+use mathlib.Core.Path.{_≡_, sym, ap, _∙_}
 use mathlib.Core.List.{List}
 use mathlib.Core.Bool.{Bool, true, false, not}
 use native.Mathlib.Omega.{arith}
 use borrow.Author.Tests.{leb-true, not-true, not-false}
-use lib.ListN.{length, drop}
+use lib.ListN.{length}
 use Rattle.charset.specs.declared.Charset.{Charset}
 use Rattle.token.specs.Result.{Result, refusal, done, inRoom, leftAs, output}
 use Rattle.lines.specs.Lines.{lines, ended}
 use Rattle.run.specs.declared.Narrowed.{Narrowed}
-use Rattle.run.specs.Narrowing.{filled}
 use Rattle.run.specs.Run.{Ended, run, total}
-use Rattle.entries.specs.Entries.{entriesOf}
 use Rattle.dictionary.specs.declared.Opened.{Opened}
 use Rattle.dictionary.specs.Opening.{opening, openedAs, opened}
 use Rattle.dictionary.specs.Narrowing.{narrowed}
 use Rattle.runs.specs.Demand3.{Opens, runOn, meeting}
 use Rattle.runs.proofs.Demand3.{Start, start-of, opens-done, demand3}
-use Rattle.runs.specs.Runs.{endedAs, notRun, leaving, ranAs, ranOn}
+use Rattle.runs.specs.Runs.{endedAs, ranAs, ranOn}
 
 abbrev refusedAs : ℕ → ℕ → Narrowed
 refusedAs number place = record { number = number; place = place; kept = 0; dropped = 0 }

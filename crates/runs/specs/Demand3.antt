@@ -6,13 +6,14 @@ use mathlib.Core.Path.{_≡_}
 use mathlib.Core.List.{List, [], _∷_, map, Perm}
 use mathlib.Core.Bool.{Bool, true, _&&_}
 use lib.ListN.{length, drop}
+use Rattle.format.specs.Format.{keep}
 use Rattle.charset.specs.declared.Charset.{Charset}
 use Rattle.token.specs.Result.{Result, refusal, done, output}
 use Rattle.sign.specs.Transcription.{otherSet, transcription}
 use Rattle.query.specs.Reading.{queryOf, readingOf}
 use Rattle.verdict.specs.Verdict.{verdictIn}
 use Rattle.lines.specs.Lines.{lines, lineOf, bytesOf}
-use Rattle.run.specs.Narrowing.{keep, rising, filled}
+use Rattle.run.specs.Narrowing.{rising, filled}
 use Rattle.run.specs.Run.{Ended, run, total, told}
 use Rattle.entries.specs.Entries.{isDone, entriesOf}
 use Rattle.dictionary.specs.Opening.{opening, opened}

@@ -4,6 +4,7 @@ use mathlib.Core.Path.{_≡_, refl}
 use mathlib.Core.List.{List}
 use borrow.Author.Tests.{eq-eqb}
 use lib.ListN.{length}
+use Rattle.format.specs.Format.{keep}
 use Rattle.charset.specs.declared.Charset.the-variants.{Fsw}
 use Rattle.charset.specs.Bytes.{digitOf, markerOf}
 use Rattle.token.specs.Result.{done}
@@ -12,7 +13,7 @@ use Rattle.reader.specs.Signs.{signOf}
 use Rattle.query.specs.Reading.{queryOf}
 use Rattle.matching.specs.Meets.{satisfies, prefixHolds, serves, judged, witnessesOf, verdictOf}
 use Rattle.verdict.specs.Verdict.{verdictOn, verdictIn}
-use Rattle.bounds.specs.Boxes.{grownAll, keep, groupsOf}
+use Rattle.bounds.specs.Boxes.{grownAll, groupsOf}
 use Rattle.bounds.specs.Sizes.{firstUnsized, measured}
 use Rattle.moving.specs.Moves.{allOf, movedSign, centredSign, centredText}
 use Rattle.starred.specs.Starred.{ascii, SizeOf, StarredRows, OtherRows}

@@ -1,6 +1,7 @@
 -- What a call comes to, and how it is answered.
 use Prim.Native.Nat.{ℕ}
 use mathlib.Core.List.{List, _++_}
+use mathlib.Core.Bool.{Bool}
 use lib.Dec.{ltb}
 use lib.ListN.{length, drop}
 use Rattle.format.specs.Format.{choose}
@@ -16,6 +17,10 @@ pub data Result (A : Type 0) : Type 0 where
 abbrev pub onDone : {A B : Type 0} → (A → B) → Result A → Result B
 onDone to (refusal number place) = refusal number place
 onDone to (done a) = done (to a)
+
+-- refused with this number and place, unless the test holds
+abbrev pub check : {A : Type 0} → Bool → ℕ → ℕ → Result A → Result A
+check test number place r = choose test r (refusal number place)
 
 -- what may be refused in its turn; the first refusal stands
 abbrev pub andThen : {A B : Type 0} → Result A → (A → Result B) → Result B

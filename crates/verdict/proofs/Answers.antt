@@ -12,12 +12,11 @@ use Rattle.format.specs.Format.{choose}
 use Rattle.format.specs.Places.{Outcome, fine, refused, unfinished}
 use Rattle.charset.specs.declared.Charset.{Charset}
 use Rattle.grammar.specs.Sign.{Meaning}
-use Rattle.token.specs.Result.{Result, refusal, done, ofOutcome}
+use Rattle.token.specs.Result.{refusal, done, ofOutcome}
 use Rattle.reader.specs.declared.arrays.Head.{Head as SignHead}
 use Rattle.reader.specs.Signs.{signOf}
 use Rattle.reader.specs.Inner.{ReadInto as SignInto}
 use Rattle.reader.proofs.Limits.{Known as SignKnown, not-read as sign-refused, was-read as sign-read, known as sign-known}
-use Rattle.sign.specs.Transcription.{otherSet, transcription}
 use Rattle.sign.proofs.Transcriptions.{transcription-laws}
 use Rattle.querygrammar.specs.Query.{Query, QueryText, itemsOf, meaning}
 use Rattle.querygrammar.specs.QueryLaws.{readQuery}
@@ -27,7 +26,6 @@ use Rattle.query.specs.Reading.{reversedIn, inOrder, checked, queryOf}
 use Rattle.query.specs.Inner.{ReadInto}
 use Rattle.query.proofs.Answers.{Known, not-read, was-read, known}
 use Rattle.matching.specs.declared.Verdict.{Verdict}
-use Rattle.matching.specs.Meets.{verdictOf, answered}
 use Rattle.matching.specs.Inner.{ValidQuery, HoldsQuery, HoldsSign, Lent, Judges}
 use Rattle.matching.proofs.Holding.{query-valid, sign-lies}
 use Rattle.verdict.specs.Verdict.{refusedAs, verdictOn, verdictBy, verdictIn, VerdictLaws}

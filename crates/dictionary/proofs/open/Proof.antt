@@ -2,7 +2,8 @@ use mathlib.Core.Path.{_≡_}
 use mathlib.Core.Bool.{true}
 use borrow.Author.Needs.{needs}
 use Rattle.lines.specs.Lines.{ended}
-use Rattle.dictionary.proofs.Openings.{is-unended, is-whole, opening-12, opening-14, opening-13, opening-done, not-opened, list-short, list-written}
+use Rattle.lines.proofs.Ends.{is-unended, is-whole}
+use Rattle.dictionary.proofs.Openings.{opening-12, opening-14, opening-13, opening-done, not-opened, list-short, list-written}
 use Rattle.dictionary.proofs.open.Statement.{statement}
 use Rattle.dictionary.proofs.open.Tie as tie
 

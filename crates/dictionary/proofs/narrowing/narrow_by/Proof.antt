@@ -2,7 +2,7 @@ use Prim.Native.Nat.{_≤_}
 use mathlib.Core.Path.{refl}
 use native.Mathlib.Omega.{arith}
 use Rattle.run.proofs.Rising.{listed-room}
-use Rattle.dictionary.proofs.Openings.{is-unended, is-whole}
+use Rattle.lines.proofs.Ends.{is-unended, is-whole}
 use Rattle.dictionary.proofs.Narrowings.{fine, unlisted, is-listed, within-flags, kept-most, by-12, by-14, by-11, by-13, by-done}
 use borrow.Author.Needs.{needs}
 use Rattle.dictionary.proofs.narrowing.narrow_by.Statement.{statement}

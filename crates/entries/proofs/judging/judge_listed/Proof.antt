@@ -1,6 +1,5 @@
 use Prim.Native.Nat.{_-_}
 use native.Mathlib.Omega.{arith}
-use borrow.Author.Needs.{needs}
 use Rattle.matching.specs.Inner.{HoldsQuery}
 use Rattle.lines.proofs.Starts.{start-within}
 use Rattle.entries.proofs.Walk.{Judging, judging-start, judging-end, judging-entry, judging-line, judging-wrong, judging-more, byte-flag}

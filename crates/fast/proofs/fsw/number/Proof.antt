@@ -1,4 +1,4 @@
-use mathlib.Core.Path.{refl}
+use native.Mathlib.Omega.{arith}
 use Rattle.fast.proofs.Spelling.{no-value, number-sure}
 use borrow.Author.Needs.{needs}
 use Rattle.fast.proofs.fsw.number.Statement.{statement}
@@ -34,38 +34,38 @@ shared-slice-read-wide c = search needs
 wide-requires : tie.Need-wide-requires
 wide-requires c κs = search needs
 
-mul-sum : tie.Need-mul-sum
-mul-sum c = search needs
+mul-wrapping-sub-u32 : tie.Need-mul-wrapping-sub-u32
+mul-wrapping-sub-u32 c = search needs
 
-mul-sum-2 : tie.Need-mul-sum-2
-mul-sum-2 c = search needs
+mul-wrapping-sub-u32-2 : tie.Need-mul-wrapping-sub-u32-2
+mul-wrapping-sub-u32-2 c = search needs
 
-add-sum : tie.Need-add-sum
-add-sum c = search needs
+add-wrapping-sub-u32 : tie.Need-add-wrapping-sub-u32
+add-wrapping-sub-u32 c = search needs
 
-add-sum-2 : tie.Need-add-sum-2
-add-sum-2 c = search needs
+add-wrapping-sub-u32-2 : tie.Need-add-wrapping-sub-u32-2
+add-wrapping-sub-u32-2 c = search needs
 
-add-if3 : tie.Need-add-if3
-add-if3 c = search needs
+add-wrapping-sub-u32-3 : tie.Need-add-wrapping-sub-u32-3
+add-wrapping-sub-u32-3 c = search needs
+
+wrapping-sub-u32-requires : tie.Need-wrapping-sub-u32-requires
+wrapping-sub-u32-requires c κs = search needs
+
+sub-if3 : tie.Need-sub-if3
+sub-if3 c = search needs
 
 returns-3 : tie.Need-returns-3
 returns-3 c = no-value
 
-add-if4 : tie.Need-add-if4
-add-if4 c = search needs
-
-returns-4 : tie.Need-returns-4
-returns-4 c = no-value
-
-sub-result : tie.Need-sub-result
-sub-result c = search needs
+add-result : tie.Need-add-result
+add-result c = search needs
 
 cast-result : tie.Need-cast-result
 cast-result c = search needs
 
-returns-5 : tie.Need-returns-5
-returns-5 c = number-sure _ _ _ _ _ _ (c .before .before .before .before .before .before .before .before .before .before .before .pre) (c .before .before .wide .ensures .0) (c .before .before .before .before .before .before .before .before .dec .ensures) (c .before .before .before .before .before .before .dec2 .ensures) (c .before .before .before .before .before .if1 .left) (c .before .before .before .before .if2 .left) refl (c .before .if3 .left) (c .if4 .left)
+returns-4 : tie.Need-returns-4
+returns-4 c = number-sure _ _ _ _ _ _ (c .before .before .before .before .before .before .before .before .before .before .before .pre) (c .before .before .wide .ensures .0) (c .before .before .before .before .before .before .before .before .dec .ensures) (c .before .before .before .before .before .before .dec2 .ensures) (c .before .before .before .before .before .if1 .left) (c .before .before .before .before .if2 .left) (omega (arith, c .before .wrapping-sub-u32 .ensures, c .if3 .left)) (c .if3 .left)
 
 pub number-spec : {M : Type 1} → statement M
 number-spec =
@@ -81,14 +81,14 @@ number-spec =
     returns-2
     shared-slice-read-wide
     wide-requires
-    mul-sum
-    mul-sum-2
-    add-sum
-    add-sum-2
-    add-if3
+    mul-wrapping-sub-u32
+    mul-wrapping-sub-u32-2
+    add-wrapping-sub-u32
+    add-wrapping-sub-u32-2
+    add-wrapping-sub-u32-3
+    wrapping-sub-u32-requires
+    sub-if3
     returns-3
-    add-if4
-    returns-4
-    sub-result
+    add-result
     cast-result
-    returns-5)
+    returns-4)

@@ -1,6 +1,6 @@
 use mathlib.Core.Path.{_∙_}
 use native.Mathlib.Omega.{arith}
-use Rattle.dictionary.proofs.Fetches.{Accepted, accepted}
+use Rattle.fetching.proofs.Fetches.{Accepted, accepted}
 use Rattle.halofret.proofs.Finding.{fetch-refused, fetch-first, fetch-second}
 use borrow.Author.Needs.{needs}
 use Rattle.halofret.proofs.dictionaries.halofret_fetch.Statement.{statement}

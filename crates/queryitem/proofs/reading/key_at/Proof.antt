@@ -1,6 +1,5 @@
 use Rattle.queryitem.proofs.Keys.{opened, key-base, key-fill, key-rotation, key-found}
 use Rattle.queryitem.proofs.Chains.{base-there}
-use denote.Ref.{now}
 use native.Mathlib.Omega.{arith}
 use borrow.Author.Needs.{needs}
 use Rattle.queryitem.proofs.reading.key_at.Statement.{statement}

@@ -2,10 +2,10 @@ use mathlib.Core.Path.{_≡_}
 use mathlib.Core.Bool.{true}
 use borrow.Author.Needs.{needs}
 use Rattle.lines.specs.Lines.{ended}
-use Rattle.dictionary.proofs.Openings.{is-unended, is-whole}
-use Rattle.dictionary.proofs.Fetches.{first-unended, second-unended, first-many, second-many, no-entry, past-entries, an-entry, answered}
-use Rattle.dictionary.proofs.fetch_refusal.Statement.{statement}
-use Rattle.dictionary.proofs.fetch_refusal.Tie as tie
+use Rattle.lines.proofs.Ends.{is-unended, is-whole}
+use Rattle.fetching.proofs.Fetches.{first-unended, second-unended, first-many, second-many, no-entry, past-entries, an-entry, answered}
+use Rattle.fetching.proofs.fetch_refusal.Statement.{statement}
+use Rattle.fetching.proofs.fetch_refusal.Tie as tie
 
 first-whole : (c : tie.Else1) → ended (c .before .before .before .before .args .first .now) ≡ true
 first-whole c = is-whole _ _ (c .before .is-ended .ensures) (c .if1 .left)

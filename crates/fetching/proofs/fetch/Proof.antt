@@ -1,9 +1,9 @@
 use native.Mathlib.Omega.{arith}
 use mathlib.Core.Path.{_∙_}
 use borrow.Author.Needs.{needs}
-use Rattle.dictionary.proofs.Fetches.{Accepted, accepted, refused-part, first-part, second-part}
-use Rattle.dictionary.proofs.fetch.Statement.{statement}
-use Rattle.dictionary.proofs.fetch.Tie as tie
+use Rattle.fetching.proofs.Fetches.{Accepted, accepted, refused-part, first-part, second-part}
+use Rattle.fetching.proofs.fetch.Statement.{statement}
+use Rattle.fetching.proofs.fetch.Tie as tie
 
 entry : (c : tie.Else1) → Accepted (c .before .before .before .before .args .first .now) (c .before .before .before .before .args .second .now) (c .before .before .before .before .args .number)
 entry c = accepted _ _ _ _ (c .before .fetch-refusal .ensures) (c .if1 .left)

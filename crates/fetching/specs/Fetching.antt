@@ -7,10 +7,9 @@ use lib.ListN.{length}
 use denote.Ref.{RefT, now}
 use Rattle.format.specs.Format.{choose}
 use Rattle.token.specs.Refusal.{dictionaryUnended, tooMany, entryAbsent}
-use Rattle.token.specs.Result.{Result, refusal, done}
-use Rattle.lines.specs.Lines.{lines, ended, lineOf, lineStart, placeIn}
-use Rattle.dictionary.specs.declared.Refusal.{Refusal}
-use Rattle.entries.specs.Entries.{check, fewLines}
+use Rattle.token.specs.Result.{Result, refusal, done, check}
+use Rattle.lines.specs.Lines.{lines, ended, fewLines, lineOf, lineStart, placeIn}
+use Rattle.fetching.specs.declared.Refusal.{Refusal}
 
 -- line k of the first dictionary, or of the second
 pub data Entry : Type 0 where

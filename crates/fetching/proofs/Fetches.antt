@@ -11,12 +11,11 @@ use native.Mathlib.Nat.{zero-add}
 use borrow.Author.Tests.{lt-ltb, le-ltb, le-leb, lt-leb, ltb-true, leb-true, leb-false}
 use denote.Ref.{RefT, now}
 use Rattle.format.specs.Format.{choose}
-use Rattle.token.specs.Result.{Result, refusal, done}
-use Rattle.lines.specs.Lines.{lines, ended, lineOf, lineStart, placeIn}
+use Rattle.token.specs.Result.{Result, refusal, done, check}
+use Rattle.lines.specs.Lines.{lines, ended, fewLines, lineOf, lineStart, placeIn}
 use Rattle.lines.proofs.Laws.{line-laws}
-use Rattle.dictionary.specs.declared.Refusal.{Refusal}
-use Rattle.entries.specs.Entries.{check, fewLines}
-use Rattle.dictionary.specs.Fetching.{Entry, inFirst, inSecond, entryOf, fetching, refusalAs, fetchedLine, fetchedPlace, FetchLaws}
+use Rattle.fetching.specs.declared.Refusal.{Refusal}
+use Rattle.fetching.specs.Fetching.{Entry, inFirst, inSecond, entryOf, fetching, refusalAs, fetchedLine, fetchedPlace, FetchLaws}
 
 module _ (d s : List ℕ) (k : ℕ) where
   pub first-unended : ended d ≡ false → fetching d s k ≡ refusal 12 0
