@@ -1,6 +1,6 @@
 -- The limits, the order of ranges, and the reading by value.
-use Prim.Native.Nat.{ℕ, zero, suc, _+_, _≤_, _<_}
-use mathlib.Core.List.{List, map}
+use Prim.Native.Nat.{ℕ, zero, suc, _+_, _<_}
+use mathlib.Core.List.{List}
 use mathlib.Core.Path.{_≡_, refl, sym, ap, _∙_}
 use mathlib.Core.Bool.{Bool, true, false}
 use mathlib.Core.Option.{Option, none, some}
@@ -11,16 +11,17 @@ use borrow.Author.Tests.{ne-eqb}
 use Rattle.format.specs.Format.{choose, optional}
 use Rattle.format.specs.Places.{Outcome, fine, refused, unfinished}
 use Rattle.token.specs.Result.{Result, refusal, done, ofOutcome}
-use Rattle.reader.specs.Signs.{padded}
-use Rattle.querygrammar.specs.Query.{Item, Query as Asked, SoughtText, QueryText, item, signboxItem, head, itemOf, meaning, itemsOf}
+use Rattle.querygrammar.specs.Query.{Query as Asked, QueryText, item, signboxItem, head, itemOf, meaning, itemsOf}
 use Rattle.querygrammar.specs.QueryLaws.{readQuery}
 use Rattle.queryitem.specs.Numbers.{numbersOf}
+use Rattle.querypart.specs.Ranges.{firstReversed}
+use Rattle.querypart.specs.Inner.{orZero, Held}
+use Rattle.querypart.proofs.Walks.{first-least}
 use Rattle.query.specs.declared.arrays.Draft.{Draft}
 use Rattle.query.specs.declared.arrays.Head.{Head}
 use Rattle.query.specs.declared.Reading.{Reading}
-use Rattle.query.specs.Reading.{firstReversed, orLater, headItems, reversedIn, inOrder, checked, queryOf, packed, readingOf, ReadingLaws}
-use Rattle.query.specs.Inner.{orZero, Held, HeldPrefix, wholeDraft, TextAs, TextInto, noHead, judged, headOf, ReadAs, ReadInto}
-use Rattle.query.proofs.Walks.{first-least}
+use Rattle.query.specs.Reading.{orLater, headItems, reversedIn, inOrder, checked, queryOf, readingOf, ReadingLaws}
+use Rattle.query.specs.Inner.{HeldPrefix, TextAs, TextInto, noHead, judged, headOf, ReadAs, ReadInto}
 
 -- no reversed range stands at 0
 later-least : (p q : Option ℕ) → (p ≡ some 0 → ⊥) → (q ≡ some 0 → ⊥) → orLater p q ≡ some 0 → ⊥

@@ -1,27 +1,28 @@
 -- Signbox items and the variance, up to the end of the text: one law for each return.
-use Prim.Native.Nat.{ℕ, _+_, _≤_, _<_}
-use mathlib.Core.List.{List, [], _∷_, map}
+use Prim.Native.Nat.{ℕ, _≤_}
+use mathlib.Core.List.{List}
 use mathlib.Core.Path.{_≡_, refl, sym, ap, _∙_}
 use mathlib.Core.Bool.{Bool, true, false}
-use mathlib.Core.Option.{Option, none, some}
+use mathlib.Core.Option.{Option}
 use lib.ListN.{length}
 use native.Mathlib.Omega.{arith}
-use Rattle.format.specs.Format.{Format, sequence, many}
+use Rattle.format.specs.Format.{many}
 use Rattle.format.specs.Places.{Outcome, fine, refused, unfinished}
 use Rattle.format.specs.Located.{Located, found, wrongAt, cut, locate, andThen, onFound, ended}
 use Rattle.format.proofs.Lawful.{Lawful}
-use Rattle.format.proofs.At.{Got, got, sequence-at-got}
+use Rattle.format.proofs.At.{got, sequence-at-got}
 use Rattle.format.proofs.Ends.{onFine, ended-on}
 use Rattle.token.specs.declared.reading.Token.{Token}
 use Rattle.token.specs.declared.reading.Token.the-variants.{Value, Wrong, Short}
-use Rattle.querygrammar.specs.Query.{Item, SoughtText, signboxItem, Figures, variance, varianceOf, TailText, tail, itemOf, soughtOf}
+use Rattle.querygrammar.specs.Query.{SoughtText, signboxItem, Figures, variance, varianceOf, TailText, tail}
 use Rattle.querygrammar.proofs.Query.{signbox-items-lawful, items-lawful}
 use Rattle.queryitem.specs.Numbers.{numbersOf}
-use Rattle.queryitem.specs.Pieces.{Sort, sort}
-use Rattle.query.specs.declared.arrays.Count.{Count}
+use Rattle.queryitem.specs.Pieces.{sort}
+use Rattle.querypart.specs.declared.items.Count.{Count}
+use Rattle.querypart.specs.Ranges.{firstReversed}
+use Rattle.querypart.specs.Inner.{toldEnd, varianceEnd, orZero, orEarlier, countOf, Held, HeldIn, ItemsIn}
 use Rattle.query.specs.declared.arrays.Draft.{Draft}
-use Rattle.query.specs.Reading.{firstReversed}
-use Rattle.query.specs.Inner.{toldEnd, varianceEnd, orZero, orEarlier, countOf, Held, HeldIn, ItemsIn, noDraft, draftOf, TailAs, TailIn}
+use Rattle.query.specs.Inner.{noDraft, TailAs, TailIn}
 
 -- WHAT IS KNOWN OF ITEMS BY THEIR NUMBER
 

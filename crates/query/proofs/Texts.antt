@@ -9,10 +9,10 @@ use lib.Dec.{ltb}
 use lib.ListN.{length, take, drop, length-drop}
 use native.Mathlib.Omega.{arith}
 use borrow.Author.Tests.{lt-ltb, le-ltb, ltb-true}
-use Rattle.format.specs.Format.{Answer, value, other, wrong, short, Format, choose, sequence, optional, either, orElse, many}
+use Rattle.format.specs.Format.{Answer, value, other, wrong, short, choose, optional, orElse, many}
 use Rattle.format.specs.Places.{Outcome, fine, refused, unfinished}
 use Rattle.format.specs.Located.{Located, found, wrongAt, cut, locate, andThen, onFound, ended}
-use Rattle.format.proofs.At.{Got, got, delimited-got, sequence-at-got, cut-reads}
+use Rattle.format.proofs.At.{got, delimited-got, sequence-at-got, cut-reads}
 use Rattle.format.proofs.Ends.{onFine, ended-on, reading-at, optional-there, optional-none, oneOrMore, one-or-more}
 use Rattle.charset.specs.Bytes.{byteOf, byte, after}
 use Rattle.charset.proofs.Units.{byte-delimited}
@@ -21,19 +21,19 @@ use Rattle.token.specs.declared.reading.Token.the-variants.{Value, Wrong, Short
 use Rattle.token.specs.Token.{tokenAt}
 use Rattle.reader.specs.Signs.{padded, zeros}
 use Rattle.reader.proofs.Filling.{padded-none}
-use Rattle.querygrammar.specs.Query.{Item, Sought, ItemText, SoughtText, HeadText, TailText, QueryText, item, signboxItem, someItems, prefixItems as prefixFormat, head, tail, afterQ, query, itemOf, soughtOf, prefixOf, varianceOf, itemsOf, kindOf}
+use Rattle.querygrammar.specs.Query.{Item, ItemText, SoughtText, HeadText, TailText, QueryText, item, signboxItem, someItems, prefixItems as prefixFormat, head, tail, afterQ, query, itemOf, soughtOf, prefixOf, varianceOf, itemsOf, kindOf}
 use Rattle.querygrammar.specs.QueryLaws.{readQuery}
 use Rattle.querygrammar.proofs.Begun.{after-at, after-begun, after-other, byte-wrong, either-begun, either-passed, optional-open, optional-over}
 use Rattle.querygrammar.proofs.Query.{item-delimited, some-lawful, optional-head-lawful, query-lawful}
-use Rattle.queryitem.specs.declared.reading.Numbers.{Numbers}
-use Rattle.queryitem.specs.Numbers.{lowest, highest, remainder, numbersOf, bareItem}
-use Rattle.queryitem.specs.Pieces.{Sort, sort}
+use Rattle.queryitem.specs.Numbers.{lowest, highest, remainder, numbersOf}
 use Rattle.queryitem.proofs.Chains.{byte-there, wrong-token, short-token}
-use Rattle.query.specs.declared.arrays.Count.{Count}
+use Rattle.querypart.specs.declared.items.Count.{Count}
+use Rattle.querypart.specs.Ranges.{firstReversed}
+use Rattle.querypart.specs.Inner.{orZero, orEarlier, Held, ItemsIn}
+use Rattle.querypart.proofs.Walks.{earlier-none, earlier-some, first-least}
 use Rattle.query.specs.declared.arrays.Draft.{Draft}
-use Rattle.query.specs.Reading.{firstReversed, orLater, headItems}
-use Rattle.query.specs.Inner.{orZero, orEarlier, Held, ItemsIn, noDraft, draftOf, TailAs, TailIn, Asks, Opened, OpensWith, Prefixed, HeldPrefix, wholeDraft, TextAs, TextInto}
-use Rattle.query.proofs.Walks.{earlier-none, earlier-some, first-least}
+use Rattle.query.specs.Reading.{orLater, headItems}
+use Rattle.query.specs.Inner.{noDraft, TailAs, TailIn, Asks, OpensWith, Prefixed, HeldPrefix, TextAs, TextInto}
 use Rattle.query.proofs.Tails.{Failed, bad, ends, failed, Done, done}
 
 -- WHAT FOLLOWS THE Q

@@ -3,31 +3,22 @@
 use Prim.Native.Nat.{ℕ, _+_}
 use mathlib.Core.Path.{_≡_}
 use mathlib.Core.List.{List, [], _∷_, map}
-use mathlib.Core.Bool.{Bool, true, false}
 use mathlib.Core.Logic.{inl, inr}
 use mathlib.Core.Option.{Option, none, some}
 use lib.Dec.{ltb}
 use lib.ListN.{length}
-use Rattle.format.specs.Format.{Format, choose, optional}
+use Rattle.format.specs.Format.{choose, optional}
 use Rattle.token.specs.Refusal.{prefixLong, signboxLong, rangeReversed}
 use Rattle.token.specs.Result.{Result, refusal, done, ofOutcome}
 use Rattle.reader.specs.Signs.{padded, zeros}
-use Rattle.querygrammar.specs.Query.{Item, keyItem, rangeItem, Sought, Prefix, free, present, begins, Query as Asked, ItemText, HeadText, SoughtText, QueryText, item, signboxItem, head, itemOf, meaning, itemsOf, kindOf}
+use Rattle.querygrammar.specs.Query.{Query as Asked, ItemText, HeadText, QueryText, item, signboxItem, head, itemOf, meaning, itemsOf, kindOf}
 use Rattle.querygrammar.specs.QueryLaws.{readQuery}
 use Rattle.queryitem.specs.Numbers.{lowest, highest, remainder, xOf, yOf}
+use Rattle.querypart.specs.Ranges.{firstReversed}
 use Rattle.query.specs.declared.Query.{Query}
 use Rattle.query.specs.declared.Reading.{Reading}
 
 -- THE ORDER OF RANGES
-
-abbrev pub reversed : Item → Bool
-reversed (keyItem base fill rotation) = false
-reversed (rangeItem from to) = ltb to from
-
--- the offset of the first that is reversed, of those that are written from an offset on
-abbrev pub firstReversed : {A : Type 0} → Format A → (A → Item) → ℕ → List A → Option ℕ
-firstReversed f of at [] = none
-firstReversed f of at (a ∷ l) = choose (reversed (of a)) (some at) (firstReversed f of (at + length (f .write a)) l)
 
 abbrev pub orLater : Option ℕ → Option ℕ → Option ℕ
 orLater none later = later

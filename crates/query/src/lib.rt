@@ -5,7 +5,6 @@ ghost use Rattle.query.specs.Reading.{queryOf, readingOf};
 use token::refusal::DONE;
 
 pub mod arrays;
-pub mod variance;
 
 // A query as read. The kind of its prefix condition is 0 for none, 1 for T alone and 2 for items.
 // An item is a code of lo to hi, whose remainder by 16 is turn unless turn is 16; a signbox item stands at

@@ -1,13 +1,12 @@
 use denote.Ref.{now}
 use Rattle.query.proofs.Texts.{prefix-refused, prefix-none, prefix-none-cut, prefix-wrong, prefix-short, prefix-room, text-prefixed}
-use Rattle.query.proofs.Tails.{items-inside}
 use native.Mathlib.Omega.{arith}
 use borrow.Author.Needs.{needs}
 use Rattle.query.proofs.arrays.prefixed_into.Statement.{statement}
 use Rattle.query.proofs.arrays.prefixed_into.Tie as tie
 use Rattle.query.proofs.arrays.prefixed_into.Reads as reads
 use Rattle.query.proofs.arrays.prefixed_into.Lts as lts
-use Rattle.query.proofs.arrays.items_into.Reads as items-into-reads
+use Rattle.querypart.proofs.items.items_into.Reads as items-into-reads
 use Rattle.query.proofs.arrays.no_draft.Reads as no-draft-reads
 use Rattle.query.proofs.arrays.tail_into.Reads as tail-into-reads
 use Rattle.token.proofs.reading.byte_at.Reads as byte-at-reads

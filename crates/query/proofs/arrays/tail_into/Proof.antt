@@ -1,14 +1,13 @@
 use Rattle.query.proofs.Tails.{items-inside, tail-refused, tail-wrong, tail-short, tail-fine}
-use denote.Ref.{now}
 use borrow.Author.Needs.{needs}
 use Rattle.query.proofs.arrays.tail_into.Statement.{statement}
 use Rattle.query.proofs.arrays.tail_into.Tie as tie
 use Rattle.query.proofs.arrays.tail_into.Reads as reads
 use Rattle.query.proofs.arrays.tail_into.Lts as lts
-use Rattle.query.proofs.arrays.items_into.Reads as items-into-reads
+use Rattle.querypart.proofs.items.items_into.Reads as items-into-reads
 use Rattle.query.proofs.arrays.no_draft.Reads as no-draft-reads
-use Rattle.query.proofs.arrays.or_earlier.Reads as or-earlier-reads
-use Rattle.query.proofs.variance.variance_end.Reads as variance-end-reads
+use Rattle.querypart.proofs.items.or_earlier.Reads as or-earlier-reads
+use Rattle.querypart.proofs.variance.variance_end.Reads as variance-end-reads
 
 items-into-requires : tie.Need-items-into-requires
 items-into-requires c κs = search needs

@@ -1,9 +1,8 @@
 -- The variance at the end of a query: one law for each return.
 use Prim.Native.Nat.{ℕ, _+_, _*_, _≤_, _<_}
-use mathlib.Core.List.{List, [], _∷_}
+use mathlib.Core.List.{List, []}
 use mathlib.Core.Path.{_≡_, refl, sym, ap, _∙_}
 use mathlib.Core.Option.{Option, none, some}
-use lib.Dec.{eqb, ltb}
 use lib.ListN.{length, drop}
 use native.Mathlib.Omega.{arith}
 use borrow.Author.Tests.{eq-eqb, ne-eqb, le-ltb}
@@ -16,14 +15,14 @@ use Rattle.charset.specs.Bytes.{byte, digit, after}
 use Rattle.charset.proofs.Units.{byte-delimited}
 use Rattle.grammar.proofs.Sign.{sequence-other}
 use Rattle.token.specs.declared.reading.Token.{Token}
-use Rattle.token.specs.declared.reading.Token.the-variants.{Value, Wrong, Short}
+use Rattle.token.specs.declared.reading.Token.the-variants.{Value, Wrong}
 use Rattle.token.specs.Token.{told, tokenAt}
 use Rattle.token.proofs.Told.{Fails, Told, told-at}
-use Rattle.querygrammar.specs.Query.{laterFigures, Figures, figures, variance, varianceOf}
+use Rattle.querygrammar.specs.Query.{laterFigures, Figures, figures, varianceOf}
 use Rattle.querygrammar.proofs.Begun.{after-at, after-begun, after-other, sequence-begun, byte-wrong, digit-wrong, optional-open, optional-over}
 use Rattle.querygrammar.proofs.Query.{figure-delimited}
 use Rattle.queryitem.proofs.Chains.{Carries, carries, value-fails, byte-there}
-use Rattle.query.specs.Inner.{toldEnd, figuresEnd, varianceEnd}
+use Rattle.querypart.specs.Inner.{toldEnd, figuresEnd, varianceEnd}
 
 -- the end of the text after a value
 ended-over : {A : Type 0} (v : A) (size i : ℕ) → i ≡ size → ended 1 size (found v i) ≡ fine v

@@ -1,10 +1,10 @@
-use Rattle.query.proofs.Figures.{unsaid, v-fails, v-said, v-room}
+use Rattle.querypart.proofs.Figures.{unsaid, v-fails, v-said, v-room}
 use borrow.Author.Needs.{needs}
-use Rattle.query.proofs.variance.variance_end.Statement.{statement}
-use Rattle.query.proofs.variance.variance_end.Tie as tie
-use Rattle.query.proofs.variance.variance_end.Reads as reads
-use Rattle.query.proofs.variance.variance_end.Lts as lts
-use Rattle.query.proofs.variance.figures_end.Reads as figures-end-reads
+use Rattle.querypart.proofs.variance.variance_end.Statement.{statement}
+use Rattle.querypart.proofs.variance.variance_end.Tie as tie
+use Rattle.querypart.proofs.variance.variance_end.Reads as reads
+use Rattle.querypart.proofs.variance.variance_end.Lts as lts
+use Rattle.querypart.proofs.variance.figures_end.Reads as figures-end-reads
 use Rattle.token.proofs.reading.byte_at.Reads as byte-at-reads
 
 returns : tie.Need-returns

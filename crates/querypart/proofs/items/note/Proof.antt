@@ -1,12 +1,11 @@
-use Rattle.query.specs.Inner.{noted}
+use Rattle.querypart.specs.Inner.{noted}
 use borrow.Author.Tests.{lt-ltb, le-ltb}
-use mathlib.Core.Path.{ap, sym, _∙_}
 use borrow.Author.Needs.{needs}
-use Rattle.query.proofs.arrays.note.Statement.{statement}
-use Rattle.query.proofs.arrays.note.Tie as tie
-use Rattle.query.proofs.arrays.note.Reads as reads
-use Rattle.query.proofs.arrays.note.Lts as lts
-use Rattle.query.proofs.arrays.or_earlier.Reads as or-earlier-reads
+use Rattle.querypart.proofs.items.note.Statement.{statement}
+use Rattle.querypart.proofs.items.note.Tie as tie
+use Rattle.querypart.proofs.items.note.Reads as reads
+use Rattle.querypart.proofs.items.note.Lts as lts
+use Rattle.querypart.proofs.items.or_earlier.Reads as or-earlier-reads
 
 or-earlier-requires : tie.Need-or-earlier-requires
 or-earlier-requires c κs = search needs

@@ -1,8 +1,8 @@
 use borrow.Author.Needs.{needs}
-use Rattle.query.proofs.arrays.put_item.Statement.{statement}
-use Rattle.query.proofs.arrays.put_item.Tie as tie
-use Rattle.query.proofs.arrays.put_item.Reads as reads
-use Rattle.query.proofs.arrays.put_item.Lts as lts
+use Rattle.querypart.proofs.items.put_item.Statement.{statement}
+use Rattle.querypart.proofs.items.put_item.Tie as tie
+use Rattle.querypart.proofs.items.put_item.Reads as reads
+use Rattle.querypart.proofs.items.put_item.Lts as lts
 use Rattle.reader.proofs.arrays.put32.Reads as put32-reads
 
 put32-requires : tie.Need-put32-requires

@@ -2,7 +2,7 @@
 ghost use mathlib.Core.Path.{_≡_};
 ghost use Prim.Native.Nat.{_+_, _^_, _≤_};
 ghost use lib.ListN.{length};
-ghost use Rattle.query.specs.Inner.{figuresEnd, varianceEnd};
+ghost use Rattle.querypart.specs.Inner.{figuresEnd, varianceEnd};
 use token::reading::Token;
 
 // One to three digits up to the end of the text.

@@ -1,16 +1,16 @@
-use Rattle.query.proofs.Walks.{ItemsInv, items-start, sighted, lows-length, highs-length, turns-length, xs-length, ys-length, items-grow, items-on, items-stop, items-end, items-bad, items-cut}
+use Rattle.querypart.proofs.Walks.{ItemsInv, items-start, sighted, lows-length, highs-length, turns-length, xs-length, ys-length, items-grow, items-on, items-stop, items-end, items-bad, items-cut}
 use borrow.Author.Needs.{needs}
 use native.Mathlib.Omega.{arith}
 use lib.ListN.{length}
 use Prim.Native.Nat.{_-_}
-use Rattle.query.proofs.arrays.items_into.Statement.{statement}
-use Rattle.query.proofs.arrays.items_into.Tie as tie
-use Rattle.query.proofs.arrays.items_into.Reads as reads
-use Rattle.query.proofs.arrays.items_into.Lts as lts
-use Rattle.query.proofs.arrays.counted.Reads as counted-reads
-use Rattle.query.proofs.arrays.no_count.Reads as no-count-reads
-use Rattle.query.proofs.arrays.note.Reads as note-reads
-use Rattle.query.proofs.arrays.put_item.Reads as put-item-reads
+use Rattle.querypart.proofs.items.items_into.Statement.{statement}
+use Rattle.querypart.proofs.items.items_into.Tie as tie
+use Rattle.querypart.proofs.items.items_into.Reads as reads
+use Rattle.querypart.proofs.items.items_into.Lts as lts
+use Rattle.querypart.proofs.items.counted.Reads as counted-reads
+use Rattle.querypart.proofs.items.no_count.Reads as no-count-reads
+use Rattle.querypart.proofs.items.note.Reads as note-reads
+use Rattle.querypart.proofs.items.put_item.Reads as put-item-reads
 use Rattle.queryitem.proofs.reading.sought_at.Reads as sought-at-reads
 
 abbrev Inv-loop : tie.InvT-loop

@@ -1,10 +1,10 @@
-use Rattle.query.proofs.Figures.{figure-there, first-fails, one-figure, second-fails, two-figures, third-fails, three-figures, four-figures}
+use Rattle.querypart.proofs.Figures.{figure-there, first-fails, one-figure, second-fails, two-figures, third-fails, three-figures, four-figures}
 use native.Mathlib.Omega.{arith}
 use borrow.Author.Needs.{needs}
-use Rattle.query.proofs.variance.figures_end.Statement.{statement}
-use Rattle.query.proofs.variance.figures_end.Tie as tie
-use Rattle.query.proofs.variance.figures_end.Reads as reads
-use Rattle.query.proofs.variance.figures_end.Lts as lts
+use Rattle.querypart.proofs.variance.figures_end.Statement.{statement}
+use Rattle.querypart.proofs.variance.figures_end.Tie as tie
+use Rattle.querypart.proofs.variance.figures_end.Reads as reads
+use Rattle.querypart.proofs.variance.figures_end.Lts as lts
 use Rattle.token.proofs.reading.digit_at.Reads as digit-at-reads
 
 digit-at-requires : tie.Need-digit-at-requires

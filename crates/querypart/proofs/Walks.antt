@@ -1,11 +1,11 @@
 -- The loop over items of the signbox or of the prefix: one law for each way on or out.
-use Prim.Native.Nat.{ℕ, zero, suc, _+_, _-_, _*_, _≤_, _<_}
-use mathlib.Core.List.{List, [], _∷_, _++_, map}
+use Prim.Native.Nat.{ℕ, _+_, _-_, _*_, _≤_, _<_}
+use mathlib.Core.List.{List, [], _∷_, _++_}
 use mathlib.Core.Path.{_≡_, refl, sym, ap, _∙_}
 use mathlib.Core.Bool.{Bool, true, false}
-use mathlib.Core.Logic.{_⊎_, inl, inr}
+use mathlib.Core.Logic.{inl, inr}
 use mathlib.Core.Option.{Option, none, some}
-use lib.Dec.{ltb, eqb}
+use lib.Dec.{ltb}
 use lib.ListN.{length, set as setAt, length-append}
 use native.Mathlib.Omega.{arith}
 use borrow.Author.Tests.{ne-eqb, lt-ltb, le-ltb, ltb-true, ltb-false}
@@ -13,9 +13,9 @@ use Rattle.format.specs.Format.{Format, choose, many, writeAll}
 use Rattle.format.specs.Located.{Located, found, wrongAt, cut, locate, onFound}
 use Rattle.format.proofs.At.{Got}
 use Rattle.format.proofs.Loop.{Walk, walk-start}
-use Rattle.reader.specs.Signs.{padded, zeros}
+use Rattle.reader.specs.Signs.{zeros}
 use Rattle.reader.proofs.Filling.{padded-none, put-more, held-length}
-use Rattle.querygrammar.specs.Query.{Item, keyItem, rangeItem, ItemText, item, signboxItem, openOf, itemOf}
+use Rattle.querygrammar.specs.Query.{Item, keyItem, ItemText, item, openOf, itemOf}
 use Rattle.querygrammar.proofs.Open.{Open, delimited-open, open-got, open-on, open-stop, open-end, open-bad, open-cut}
 use Rattle.querygrammar.proofs.Query.{item-delimited, signbox-item-open}
 use Rattle.queryitem.specs.declared.reading.Numbers.{Numbers}
@@ -23,9 +23,9 @@ use Rattle.queryitem.specs.declared.reading.Piece.{Piece}
 use Rattle.queryitem.specs.declared.reading.Piece.the-variants.{Found, Wrong, Short}
 use Rattle.queryitem.specs.Numbers.{firstCode, lowest, highest, numbersOf}
 use Rattle.queryitem.specs.Pieces.{toldPiece, pieceAt, Sort, sort, soughtAt}
-use Rattle.query.specs.declared.arrays.Count.{Count}
-use Rattle.query.specs.Reading.{reversed, firstReversed}
-use Rattle.query.specs.Inner.{orZero, orEarlier, noted, countOf, Held, HeldIn, ItemsIn}
+use Rattle.querypart.specs.declared.items.Count.{Count}
+use Rattle.querypart.specs.Ranges.{reversed, firstReversed}
+use Rattle.querypart.specs.Inner.{orZero, orEarlier, noted, countOf, Held, HeldIn, ItemsIn}
 
 -- THE ORDER OF RANGES
 
