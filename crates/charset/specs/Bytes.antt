@@ -1,9 +1,16 @@
 -- The units that both character sets are made of: bytes, digits, markers, and characters of four bytes.
 use Prim.Native.Nat.{ℕ, _+_, _-_, _*_, _/_, _%_}
+use Prim.Native.Char.{code}
+use Prim.Native.String.{String, [] as none, _∷_ as _then_}
 use mathlib.Core.List.{List, [], _∷_}
 use lib.Dec.{ltb, eqb}
 use Rattle.format.specs.Format.{Format, choose, unit, sequence, mapped}
 use Rattle.format.specs.Numeral.{Range, numeral}
+
+-- the bytes of an ASCII text
+abbrev pub ascii : String → List ℕ
+ascii none = []
+ascii (c then s) = code c ∷ ascii s
 
 -- a number that one byte stands for
 abbrev pub byteOf : (ℕ → ℕ) → List ℕ → ℕ
@@ -18,7 +25,7 @@ byte b = unit 1 (byteOf λ a. a) (λ a. a ∷ []) b b
 abbrev pub after : {A : Type 0} → ℕ → Format A → Format A
 after b f = mapped (sequence (byte b) λ a. f) (λ p. p .1) (λ v. (b, v)) (f .Valid)
 
--- the value of a hexadecimal digit, lower case only, and 16 for any other byte
+-- the value of a hexadecimal digit, lower case only, and 16 for any other byte: 0 to 9 are bytes 48 to 57, a to f 97 to 102
 unfoldable pub digitOf : ℕ → ℕ
 digitOf b =
     choose (ltb b 48) 16
@@ -40,14 +47,14 @@ digits = numeral digit digit
 -- the markers A, B, L, M, R are 0 to 4, and any other byte is 5
 unfoldable pub markerOf : ℕ → ℕ
 markerOf b =
-    choose (eqb b 65) 0
-    (choose (eqb b 66) 1
-    (choose (eqb b 76) 2
-    (choose (eqb b 77) 3
-    (choose (eqb b 82) 4 5))))
+    choose (eqb b (code "A")) 0
+    (choose (eqb b (code "B")) 1
+    (choose (eqb b (code "L")) 2
+    (choose (eqb b (code "M")) 3
+    (choose (eqb b (code "R")) 4 5))))
 
 abbrev pub markerByte : ℕ → ℕ
-markerByte m = choose (eqb m 0) 65 (choose (eqb m 1) 66 (choose (eqb m 2) 76 (choose (eqb m 3) 77 82)))
+markerByte m = choose (eqb m 0) (code "A") (choose (eqb m 1) (code "B") (choose (eqb m 2) (code "L") (choose (eqb m 3) (code "M") (code "R"))))
 
 -- one marker of lo to hi
 abbrev pub letter : ℕ → ℕ → Format ℕ

@@ -1,5 +1,6 @@
 -- Document 01, "Symbols and numbers": symbols, numbers and markers in both character sets.
 use Prim.Native.Nat.{ℕ, zero, suc, _+_, _-_, _*_, _/_, _%_}
+use Prim.Native.Char.{code}
 use mathlib.Core.List.{[], _∷_}
 use mathlib.Core.Logic.{_⊎_, inl, inr}
 use Rattle.format.specs.Format.{Format, sequence, mapped, either}
@@ -78,10 +79,10 @@ abbrev pub fsw : Tokens
 fsw = record {
   unit = 1;
   marker = letter;
-  symbol = λ top. after 83 (key top);
-  symbolOrNull = λ top. after 83 (nullOrKey top);
+  symbol = λ top. after (code "S") (key top);
+  symbolOrNull = λ top. after (code "S") (nullOrKey top);
   number = fswNumber;
-  second = after 120 fswNumber;
+  second = after (code "x") fswNumber;
   markerSize = 1;
   symbolSize = 6;
   numberSize = 3;

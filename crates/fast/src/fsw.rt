@@ -87,7 +87,7 @@ fn symbol(s: &[u8], at: usize, top: u32) -> u16
     requires { ⌜ (at + 6 ≤ length (now s)) × (0x100 ≤ top) × (top ≤ 0x38b) ⌝ }
     ensures { λ r. ⌜ SureValue 6 (fsw .symbol top) (now (s .entry)) at r ⌝ }
 {
-    if s[at] != 83 {
+    if s[at] != b'S' {
         return 0;
     }
     let base = std::num::wrapping_sub_u32(base_of(s, at + 1), 0x3100);
@@ -121,7 +121,7 @@ fn point_after(s: &[u8], at: usize, value: u16) -> Placed
     if x == 0 {
         return Placed::Short;
     }
-    if s[at + 3] != 120 {
+    if s[at + 3] != b'x' {
         return Placed::Short;
     }
     let y = number(s, at + 4);

@@ -107,7 +107,7 @@ fn prefixed_into(
         }
         return no_draft(TEXT_SHORT, s.len());
     }
-    match token::reading::byte_at(s, place, 84) {
+    match token::reading::byte_at(s, place, b'T') {
         Token::Value(_) => tail_into(s, place + 1, 2, count, t.reversed, lo, hi, turn, xs, ys),
         Token::Wrong(p) => no_draft(TEXT_WRONG, p),
         Token::Short => no_draft(TEXT_SHORT, s.len()),
@@ -119,9 +119,9 @@ fn opens_with(s: &[u8]) -> u8
     requires { ⌜ 1 ≤ length (now s) ⌝ }
     ensures { λ r. ⌜ OpensWith (now (s .entry)) r ⌝ }
 {
-    match token::reading::byte_at(s, 1, 84) {
+    match token::reading::byte_at(s, 1, b'T') {
         Token::Value(_) => 1,
-        Token::Wrong(_) => match token::reading::byte_at(s, 1, 65) {
+        Token::Wrong(_) => match token::reading::byte_at(s, 1, b'A') {
             Token::Value(_) => 2,
             Token::Wrong(_) => 0,
             Token::Short => 0,
@@ -167,7 +167,7 @@ fn text_into(
     requires { ⌜ (now plo ≡ zeros 32) × (now phi ≡ zeros 32) × (now pturn ≡ zeros 32) × (now lo ≡ zeros 32) × (now hi ≡ zeros 32) × (now turn ≡ zeros 32) × (now xs ≡ zeros 32) × (now ys ≡ zeros 32) ⌝ }
     ensures { λ r. ⌜ TextInto (now (s .entry)) r (now (plo .exit)) (now (phi .exit)) (now (pturn .exit)) (now (lo .exit)) (now (hi .exit)) (now (turn .exit)) (now (xs .exit)) (now (ys .exit)) ⌝ }
 {
-    match token::reading::byte_at(s, 0, 81) {
+    match token::reading::byte_at(s, 0, b'Q') {
         Token::Value(_) => after_q_into(s, plo, phi, pturn, lo, hi, turn, xs, ys),
         Token::Wrong(p) => no_draft(TEXT_WRONG, p),
         Token::Short => no_draft(TEXT_SHORT, s.len()),

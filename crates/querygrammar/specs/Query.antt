@@ -1,5 +1,6 @@
 -- Document 01, "A query": how a query is written in FSW form, and what it means.
 use Prim.Native.Nat.{ℕ, _+_, _*_}
+use Prim.Native.Char.{code}
 use mathlib.Core.List.{List, [], _∷_, map}
 use mathlib.Core.Logic.{_⊎_, inl, inr}
 use mathlib.Core.Option.{Option, none, some}
@@ -15,7 +16,7 @@ abbrev pub queryBase : Format ℕ
 queryBase = base 0x100 lastPunctuation
 
 abbrev pub orAny : ℕ → Format (ℕ ⊎ ℕ)
-orAny hi = either (digit 0 hi) (byte 117)
+orAny hi = either (digit 0 hi) (byte (code "u"))
 
 -- an item: S, base, fill or u, rotation or u; or R, base, t, base
 abbrev pub openDigits : Format ((ℕ ⊎ ℕ) × (ℕ ⊎ ℕ))
@@ -25,7 +26,7 @@ abbrev pub keyTail : Format (ℕ × ((ℕ ⊎ ℕ) × (ℕ ⊎ ℕ)))
 keyTail = sequence queryBase λ b. openDigits
 
 abbrev pub rangeEnd : Format ℕ
-rangeEnd = after 116 queryBase
+rangeEnd = after (code "t") queryBase
 
 abbrev pub rangeTail : Format (ℕ × ℕ)
 rangeTail = sequence queryBase λ b. rangeEnd
@@ -34,7 +35,7 @@ abbrev pub ItemText : Type 0
 ItemText = (ℕ × ((ℕ ⊎ ℕ) × (ℕ ⊎ ℕ))) ⊎ (ℕ × ℕ)
 
 abbrev pub item : Format ItemText
-item = either (after 83 keyTail) (after 82 rangeTail)
+item = either (after (code "S") keyTail) (after (code "R") rangeTail)
 
 -- a signbox item may carry a coordinate; a prefix item may not
 abbrev pub coordinate : Format (ℕ × ℕ)
@@ -51,13 +52,13 @@ abbrev pub someItems : Format (ItemText × List ItemText)
 someItems = sequence item λ i. many item
 
 abbrev pub prefixItems : Format ((ItemText × List ItemText) × ℕ)
-prefixItems = sequence someItems λ l. byte 84
+prefixItems = sequence someItems λ l. byte (code "T")
 
 abbrev pub HeadText : Type 0
 HeadText = ℕ ⊎ ((ItemText × List ItemText) × ℕ)
 
 abbrev pub head : Format HeadText
-head = either (byte 84) (after 65 prefixItems)
+head = either (byte (code "T")) (after (code "A") prefixItems)
 
 -- V and one to three decimal digits
 abbrev pub laterFigures : Format (ℕ × Option ℕ)
@@ -70,7 +71,7 @@ abbrev pub figures : Format Figures
 figures = sequence (digit 0 9) λ a. optional laterFigures
 
 abbrev pub variance : Format (Option Figures)
-variance = optional (after 86 figures)
+variance = optional (after (code "V") figures)
 
 -- signbox items, and the variance
 abbrev pub TailText : Type 0
@@ -87,7 +88,7 @@ abbrev pub afterQ : Format QueryText
 afterQ = sequence (optional head) λ h. tail
 
 abbrev pub query : Format QueryText
-query = after 81 afterQ
+query = after (code "Q") afterQ
 
 -- WHAT A QUERY MEANS
 

@@ -49,7 +49,7 @@ fn open_at(s: &[u8], at: usize, top: u16) -> Token
     let Token::Wrong(_) = digit else {
         return digit;
     };
-    let letter = token::reading::byte_at(s, at, 117);
+    let letter = token::reading::byte_at(s, at, b'u');
     let Token::Value(_) = letter else {
         return letter;
     };
@@ -130,7 +130,7 @@ fn range_at(s: &[u8], at: usize) -> Piece
     requires { ⌜ at + 32 ≤ 2 ^ 64 ⌝ }
     ensures { λ r. ⌜ r ≡ pieceAt (after 82 rangeTail) (λ p. bare (itemOf (inr p))) (now (s .entry)) at ⌝ }
 {
-    let letter = token::reading::byte_at(s, at, 82);
+    let letter = token::reading::byte_at(s, at, b'R');
     let Token::Value(_) = letter else {
         return failed(letter);
     };
@@ -138,7 +138,7 @@ fn range_at(s: &[u8], at: usize) -> Piece
     let Token::Value(from) = first else {
         return failed(first);
     };
-    let until = token::reading::byte_at(s, at + 4, 116);
+    let until = token::reading::byte_at(s, at + 4, b't');
     let Token::Value(_) = until else {
         return failed(until);
     };
@@ -154,7 +154,7 @@ fn item_at(s: &[u8], at: usize) -> Piece
     requires { ⌜ at + 64 ≤ 2 ^ 64 ⌝ }
     ensures { λ r. ⌜ r ≡ pieceAt item (λ i. bare (itemOf i)) (now (s .entry)) at ⌝ }
 {
-    match token::reading::byte_at(s, at, 83) {
+    match token::reading::byte_at(s, at, b'S') {
         Token::Value(_) => key_at(s, at + 1),
         Token::Wrong(_) => range_at(s, at),
         Token::Short => Piece::Short,

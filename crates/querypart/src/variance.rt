@@ -42,7 +42,7 @@ pub fn variance_end(s: &[u8], at: usize) -> Token
     if s.len() <= at {
         return Token::Value(20);
     }
-    let letter = token::reading::byte_at(s, at, 86);
+    let letter = token::reading::byte_at(s, at, b'V');
     let Token::Value(_) = letter else {
         return letter;
     };

@@ -1,11 +1,12 @@
 -- The search program's whole output, from its whole input (document 01, "The search program").
 use Prim.Native.Nat.{ℕ, suc, _≤_}
 use mathlib.Core.Path.{_≡_}
-use mathlib.Core.List.{List, [], _∷_, _++_}
+use mathlib.Core.List.{List, _++_}
 use mathlib.Core.Bool.{Bool, _&&_}
 use lib.Dec.{eqb, leb}
 use lib.ListN.{length, take, drop}
 use Rattle.format.specs.Format.{choose}
+use Rattle.charset.specs.Bytes.{ascii}
 use Rattle.charset.specs.declared.Charset.the-variants.{Fsw}
 use Rattle.token.specs.Refusal.{tooMany}
 use Rattle.token.specs.Result.{Result, refusal, done}
@@ -27,25 +28,12 @@ dictionaryIn input = drop (suc (length (firstLine input))) input
 unfoldable pub within : List ℕ → List ℕ → Bool
 within query dict = leb (length query) 1024 && (leb (length dict) 49152 && leb (length (lines dict)) 1024)
 
--- `answer=`, `place=`, `entries=`, `kept=`
-abbrev pub answerKey : List ℕ
-answerKey = 97 ∷ 110 ∷ 115 ∷ 119 ∷ 101 ∷ 114 ∷ 61 ∷ []
-
-abbrev pub placeKey : List ℕ
-placeKey = 112 ∷ 108 ∷ 97 ∷ 99 ∷ 101 ∷ 61 ∷ []
-
-abbrev pub entriesKey : List ℕ
-entriesKey = 101 ∷ 110 ∷ 116 ∷ 114 ∷ 105 ∷ 101 ∷ 115 ∷ 61 ∷ []
-
-abbrev pub keptKey : List ℕ
-keptKey = 107 ∷ 101 ∷ 112 ∷ 116 ∷ 61 ∷ []
-
 unfoldable pub refusalText : ℕ → ℕ → List ℕ
-refusalText number place = keyLine answerKey number ++ keyLine placeKey place
+refusalText number place = keyLine (ascii "answer=") number ++ keyLine (ascii "place=") place
 
 -- the line count, and the entries that were kept
 unfoldable pub foundText : ℕ → List ℕ → List ℕ
-foundText n kept = keyLine answerKey 0 ++ keyLine entriesKey n ++ keyLine keptKey (length kept) ++ entryLines kept
+foundText n kept = keyLine (ascii "answer=") 0 ++ keyLine (ascii "entries=") n ++ keyLine (ascii "kept=") (length kept) ++ entryLines kept
 
 -- what narrowing the n entries answered, and the list after it, of which it kept the first
 unfoldable pub narrowedText : ℕ → Narrowed × List ℕ → List ℕ

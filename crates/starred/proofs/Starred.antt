@@ -6,7 +6,7 @@ use borrow.Author.Tests.{eq-eqb}
 use lib.ListN.{length}
 use Rattle.format.specs.Format.{keep}
 use Rattle.charset.specs.declared.Charset.the-variants.{Fsw}
-use Rattle.charset.specs.Bytes.{digitOf, markerOf}
+use Rattle.charset.specs.Bytes.{ascii, digitOf, markerOf}
 use Rattle.token.specs.Result.{done}
 use Rattle.symbol.specs.Codes.{codeRead, codeText}
 use Rattle.reader.specs.Signs.{signOf}
@@ -16,7 +16,7 @@ use Rattle.verdict.specs.Verdict.{verdictOn, verdictIn}
 use Rattle.bounds.specs.Boxes.{grownAll, groupsOf}
 use Rattle.bounds.specs.Sizes.{firstUnsized, measured}
 use Rattle.moving.specs.Moves.{allOf, movedSign, centredSign, centredText}
-use Rattle.starred.specs.Starred.{ascii, SizeOf, StarredRows, OtherRows}
+use Rattle.starred.specs.Starred.{SizeOf, StarredRows, OtherRows}
 
 module _ (sizes : List ℕ) (n : length sizes ≡ 125184) where
   centred-whole : SizeOf sizes 1 15 30 → SizeOf sizes 25057 10 10

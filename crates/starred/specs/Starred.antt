@@ -1,12 +1,10 @@
 -- The worked examples that document 01 marks with a star, as one statement about the definitions that the contracts cite.
 use Prim.Native.Nat.{ℕ}
-use Prim.Native.Char.{code}
-use Prim.Native.String.{String, [] as none, _∷_ as _then_}
 use mathlib.Core.Path.{_≡_}
 use mathlib.Core.List.{List, [], _∷_, _++_}
 use lib.ListN.{length}
 use Rattle.charset.specs.declared.Charset.the-variants.{Fsw, Swu}
-use Rattle.charset.specs.Bytes.{utf8}
+use Rattle.charset.specs.Bytes.{ascii, utf8}
 use Rattle.grammar.specs.Sign.{signText}
 use Rattle.token.specs.Result.{refusal, done}
 use Rattle.symbol.specs.Codes.{codeRead, codeText}
@@ -16,11 +14,6 @@ use Rattle.matching.specs.Meets.{unmet, met, answered}
 use Rattle.verdict.specs.Verdict.{verdictIn}
 use Rattle.bounds.specs.Boxes.{widthOf, heightOf}
 use Rattle.moving.specs.Moves.{centredText}
-
--- the bytes of an ASCII text
-abbrev pub ascii : String → List ℕ
-ascii none = []
-ascii (c then s) = code c ∷ ascii s
 
 abbrev pub K : List ℕ
 K = ascii "AS10000S20500M510x515S10000490x485S20500500x495"

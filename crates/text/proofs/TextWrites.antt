@@ -6,9 +6,10 @@ use native.Mathlib.Numerals.{add-one}
 use native.Mathlib.Omega.{arith}
 use lib.ListN.{length, getD, take, length-append}
 use lib.Seq.{take-suc, take-all, length-take-le}
+use Rattle.charset.specs.Bytes.{ascii}
 use Rattle.token.specs.Wrote.{Wrote}
 use Rattle.writer.proofs.Writes.{wrote-more, wrote-as}
-use Rattle.text.specs.Text.{decimal, keyLine, entryKey, entryLines}
+use Rattle.text.specs.Text.{decimal, keyLine, entryLines}
 use Rattle.text.proofs.Decimal.{decimal-short}
 
 pub line-length : (key : List ℕ) (n : ℕ) → length (keyLine key n) ≡ length key + length (decimal n) + 1
@@ -33,16 +34,16 @@ module _ {o p : List ℕ} {a r : ℕ} (s : List ℕ) (i : ℕ) (w : Wrote o p a 
 
 -- ---- entries
 
-entries-last : (es : List ℕ) (e : ℕ) → entryLines (es ++ (e ∷ [])) ≡ entryLines es ++ keyLine entryKey e
+entries-last : (es : List ℕ) (e : ℕ) → entryLines (es ++ (e ∷ [])) ≡ entryLines es ++ keyLine (ascii "entry=") e
 unfolding entryLines
-entries-last [] e = append-nil (keyLine entryKey e)
+entries-last [] e = append-nil (keyLine (ascii "entry=") e)
 entries-last (x ∷ es) e = rw (entries-last es e, append-assoc)
 
-pub entry-short : (e : ℕ) → e < 65536 → length (keyLine entryKey e) ≤ 12
-entry-short e h = line-short entryKey 5 e (omega arith) (omega arith)
+pub entry-short : (e : ℕ) → e < 65536 → length (keyLine (ascii "entry=") e) ≤ 12
+entry-short e h = line-short (ascii "entry=") 5 e (omega arith) (omega arith)
 
 module _ {o p : List ℕ} {a r : ℕ} (es : List ℕ) (i : ℕ) (w : Wrote o p a r (entryLines (take i es))) where
-  pub entries-more : {q : List ℕ} {t : ℕ} → i < length es → Wrote p q r t (keyLine entryKey (getD es i 0)) → Wrote o q a t (entryLines (take (i + 1) es))
+  pub entries-more : {q : List ℕ} {t : ℕ} → i < length es → Wrote p q r t (keyLine (ascii "entry=") (getD es i 0)) → Wrote o q a t (entryLines (take (i + 1) es))
   entries-more h v = wrote-as (wrote-more w v) (sym (entries-last (take i es) (getD es i 0)) ∙ ap entryLines (rw add-one (sym (take-suc es i 0 h))))
 
   pub entries-all : length es ≤ i → Wrote o p a r (entryLines es)

@@ -3,6 +3,7 @@ use Prim.Native.Nat.{ℕ, zero, suc, _+_, _/_, _%_}
 use mathlib.Core.List.{List, [], _∷_, _++_}
 use lib.Dec.{ltb}
 use Rattle.format.specs.Format.{choose}
+use Rattle.charset.specs.Bytes.{ascii}
 
 abbrev pub digit : ℕ → List ℕ
 digit d = (48 + d) ∷ []
@@ -20,11 +21,7 @@ decimal n = decimalIn (suc n) n
 unfoldable pub keyLine : List ℕ → ℕ → List ℕ
 keyLine key n = key ++ decimal n ++ (10 ∷ [])
 
--- `entry=`
-abbrev pub entryKey : List ℕ
-entryKey = 101 ∷ 110 ∷ 116 ∷ 114 ∷ 121 ∷ 61 ∷ []
-
 -- a line for each entry
 unfoldable pub entryLines : List ℕ → List ℕ
 entryLines [] = []
-entryLines (e ∷ entries) = keyLine entryKey e ++ entryLines entries
+entryLines (e ∷ entries) = keyLine (ascii "entry=") e ++ entryLines entries

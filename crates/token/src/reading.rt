@@ -23,13 +23,13 @@ pub enum Token {
 fn digit(b: u8) -> u16
     ensures { λ r. ⌜ r ≡ digitOf b ⌝ }
 {
-    if b < 48 {
+    if b < b'0' {
         return 16;
     }
     if b < 58 {
         return (b as u16) - 48;
     }
-    if b < 97 {
+    if b < b'a' {
         return 16;
     }
     if b < 103 {
@@ -175,19 +175,19 @@ pub fn marker_of(b: u8) -> u16
     ensures { λ r. ⌜ r ≡ markerOf b ⌝ }
 {
     let mut m: u16 = 5;
-    if b == 82 {
+    if b == b'R' {
         m = 4;
     }
-    if b == 77 {
+    if b == b'M' {
         m = 3;
     }
-    if b == 76 {
+    if b == b'L' {
         m = 2;
     }
-    if b == 66 {
+    if b == b'B' {
         m = 1;
     }
-    if b == 65 {
+    if b == b'A' {
         m = 0;
     }
     m
@@ -252,7 +252,7 @@ fn fsw_symbol_at(s: &[u8], at: usize, top: u16) -> Token
     requires { ⌜ (at + 64 ≤ 2 ^ 64) × (0x100 ≤ top) × (top ≤ 0x38b) ⌝ }
     ensures { λ r. ⌜ r ≡ tokenAt (tokens Charset.Fsw .symbol top) (now (s .entry)) at ⌝ }
 {
-    let letter = byte_at(s, at, 83);
+    let letter = byte_at(s, at, b'S');
     let Token::Value(_) = letter else {
         return letter;
     };
@@ -264,7 +264,7 @@ fn fsw_symbol_or_null_at(s: &[u8], at: usize, top: u16) -> Token
     requires { ⌜ (at + 64 ≤ 2 ^ 64) × (0x100 ≤ top) × (top ≤ 0x38b) ⌝ }
     ensures { λ r. ⌜ r ≡ tokenAt (tokens Charset.Fsw .symbolOrNull top) (now (s .entry)) at ⌝ }
 {
-    let letter = byte_at(s, at, 83);
+    let letter = byte_at(s, at, b'S');
     let Token::Value(_) = letter else {
         return letter;
     };
@@ -276,7 +276,7 @@ fn fsw_second_at(s: &[u8], at: usize) -> Token
     requires { ⌜ at + 64 ≤ 2 ^ 64 ⌝ }
     ensures { λ r. ⌜ r ≡ tokenAt (tokens Charset.Fsw .second) (now (s .entry)) at ⌝ }
 {
-    let letter = byte_at(s, at, 120);
+    let letter = byte_at(s, at, b'x');
     let Token::Value(_) = letter else {
         return letter;
     };

@@ -57,7 +57,7 @@ fn put_key(out: &mut [u8], at: usize, code: u16) -> usize
         base = 0x100 + (code - 1) / 96;
         turn = (code - 1) % 96;
     }
-    let next = put_byte(out, at, 83);
+    let next = put_byte(out, at, b'S');
     let last = put_three(out, next, 256, 16, base);
     put_two(out, last, 16, turn)
 }
@@ -78,18 +78,18 @@ fn marker_byte(m: u16) -> u8
     ensures { λ r. ⌜ r ≡ markerByte m ⌝ }
 {
     if m == 0 {
-        return 65;
+        return b'A';
     }
     if m == 1 {
-        return 66;
+        return b'B';
     }
     if m == 2 {
-        return 76;
+        return b'L';
     }
     if m == 3 {
-        return 77;
+        return b'M';
     }
-    82
+    b'R'
 }
 
 // A marker, 0 to 4 for A, B, L, M, R.
@@ -132,7 +132,7 @@ pub fn put_second(set: Charset, out: &mut [u8], at: usize, n: u16) -> usize
 {
     match set {
         Charset::Fsw => {
-            let next = put_byte(out, at, 120);
+            let next = put_byte(out, at, b'x');
             put_three(out, next, 100, 10, n)
         }
         Charset::Swu => put_character(out, at, 0x1d80c - 250 + n as u32),

@@ -1,9 +1,10 @@
 use native.Mathlib.Omega.{arith}
 use lib.ListN.{length}
 use borrow.Author.Needs.{needs}
+use Rattle.charset.specs.Bytes.{ascii}
 use Rattle.writer.proofs.Writes.{wrote-more}
 use Rattle.text.proofs.TextWrites.{line-short}
-use Rattle.report.specs.Report.{answerKey, entriesKey, keptKey, foundText}
+use Rattle.report.specs.Report.{foundText}
 use Rattle.report.proofs.put_found.Statement.{statement}
 use Rattle.report.proofs.put_found.Tie as tie
 
@@ -11,25 +12,25 @@ slice-aggregate-put-line : tie.Need-slice-aggregate-put-line
 slice-aggregate-put-line c = search needs
 
 put-line-requires : tie.Need-put-line-requires
-put-line-requires c κs = omega (arith, line-short answerKey 1 0 (omega arith) (omega arith))
+put-line-requires c κs = omega (arith, line-short (ascii "answer=") 1 0 (omega arith) (omega arith))
 
 slice-aggregate-put-line-2 : tie.Need-slice-aggregate-put-line-2
 slice-aggregate-put-line-2 c = search needs
 
 put-line-requires-2 : tie.Need-put-line-requires-2
 put-line-requires-2 c κs =
-    omega (arith, line-short answerKey 1 0 (omega arith) (omega arith), line-short entriesKey 4 (c .before .before .before .before .before .before .before .before .before .args .lines) (omega arith) (omega arith))
+    omega (arith, line-short (ascii "answer=") 1 0 (omega arith) (omega arith), line-short (ascii "entries=") 4 (c .before .before .before .before .before .before .before .before .before .args .lines) (omega arith) (omega arith))
 
 slice-aggregate-put-line-3 : tie.Need-slice-aggregate-put-line-3
 slice-aggregate-put-line-3 c = search needs
 
 put-line-requires-3 : tie.Need-put-line-requires-3
 put-line-requires-3 c κs =
-    omega (arith, line-short answerKey 1 0 (omega arith) (omega arith), line-short entriesKey 4 (c .before .before .before .before .before .before .before .before .before .before .before .before .before .before .args .lines) (omega arith) (omega arith), line-short keptKey 4 (length (c .before .before .before .before .before .before .before .before .before .before .before .before .before .before .args .kept .now)) (omega arith) (omega arith))
+    omega (arith, line-short (ascii "answer=") 1 0 (omega arith) (omega arith), line-short (ascii "entries=") 4 (c .before .before .before .before .before .before .before .before .before .before .before .before .before .before .args .lines) (omega arith) (omega arith), line-short (ascii "kept=") 4 (length (c .before .before .before .before .before .before .before .before .before .before .before .before .before .before .args .kept .now)) (omega arith) (omega arith))
 
 put-entries-requires : tie.Need-put-entries-requires
 put-entries-requires c κs =
-    omega (arith, line-short answerKey 1 0 (omega arith) (omega arith), line-short entriesKey 4 (c .before .before .before .before .before .before .before .before .before .before .before .before .before .before .before .before .before .before .args .lines) (omega arith) (omega arith), line-short keptKey 4 (length (c .before .before .before .before .before .before .before .before .before .before .before .before .before .before .before .before .before .before .args .kept .now)) (omega arith) (omega arith))
+    omega (arith, line-short (ascii "answer=") 1 0 (omega arith) (omega arith), line-short (ascii "entries=") 4 (c .before .before .before .before .before .before .before .before .before .before .before .before .before .before .before .before .before .before .args .lines) (omega arith) (omega arith), line-short (ascii "kept=") 4 (length (c .before .before .before .before .before .before .before .before .before .before .before .before .before .before .before .before .before .before .args .kept .now)) (omega arith) (omega arith))
 
 same-length : tie.Need-same-length
 same-length c = search needs

@@ -1,8 +1,9 @@
 use native.Mathlib.Omega.{arith}
 use borrow.Author.Needs.{needs}
+use Rattle.charset.specs.Bytes.{ascii}
 use Rattle.writer.proofs.Writes.{wrote-more}
 use Rattle.text.proofs.TextWrites.{line-short}
-use Rattle.report.specs.Report.{answerKey, placeKey, refusalText}
+use Rattle.report.specs.Report.{refusalText}
 use Rattle.report.proofs.put_refusal.Statement.{statement}
 use Rattle.report.proofs.put_refusal.Tie as tie
 
@@ -10,14 +11,14 @@ slice-aggregate-put-line : tie.Need-slice-aggregate-put-line
 slice-aggregate-put-line c = search needs
 
 put-line-requires : tie.Need-put-line-requires
-put-line-requires c κs = omega (arith, line-short answerKey 3 (c .before .before .before .args .number) (omega arith) (omega arith))
+put-line-requires c κs = omega (arith, line-short (ascii "answer=") 3 (c .before .before .before .args .number) (omega arith) (omega arith))
 
 slice-aggregate-put-line-2 : tie.Need-slice-aggregate-put-line-2
 slice-aggregate-put-line-2 c = search needs
 
 put-line-requires-2 : tie.Need-put-line-requires-2
 put-line-requires-2 c κs =
-    omega (arith, line-short answerKey 3 (c .before .before .before .before .before .before .before .before .args .number) (omega arith) (omega arith), line-short placeKey 20 (c .before .before .before .before .before .before .before .before .args .place) (omega arith) (omega arith))
+    omega (arith, line-short (ascii "answer=") 3 (c .before .before .before .before .before .before .before .before .args .number) (omega arith) (omega arith), line-short (ascii "place=") 20 (c .before .before .before .before .before .before .before .before .args .place) (omega arith) (omega arith))
 
 same-length : tie.Need-same-length
 same-length c = search needs

@@ -2,15 +2,16 @@ use Prim.Native.Nat.{_+_, _-_, _*_, _≤_}
 use mathlib.Core.Path.{_≡_, refl}
 use lib.ListN.{length, take}
 use native.Mathlib.Omega.{arith}
+use Rattle.charset.specs.Bytes.{ascii}
 use Rattle.token.specs.Wrote.{Wrote}
 use Rattle.writer.proofs.Writes.{wrote-none}
-use Rattle.text.specs.Text.{entryKey, entryLines}
+use Rattle.text.specs.Text.{entryLines}
 use Rattle.text.proofs.TextWrites.{entry-short, entries-more, entries-all}
 use Rattle.text.proofs.line.put_entries.Statement.{statement}
 use Rattle.text.proofs.line.put_entries.Tie as tie
 
 abbrev Inv-loop : tie.InvT-loop
-Inv-loop out₀ at list next₀ k₀ key out next k = (k ≤ length list) × (key ≡ entryKey) × (next ≤ at + 12 * k) × Wrote out₀ out at next (entryLines (take k list))
+Inv-loop out₀ at list next₀ k₀ key out next k = (k ≤ length list) × (key ≡ ascii "entry=") × (next ≤ at + 12 * k) × Wrote out₀ out at next (entryLines (take k list))
 
 abbrev μ-loop : tie.MeasureT-loop
 μ-loop out₀ at list next₀ k₀ key out next k = length list - k
