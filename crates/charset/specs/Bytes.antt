@@ -17,7 +17,7 @@ abbrev pub byteOf : (ℕ → ℕ) → List ℕ → ℕ
 byteOf of [] = 0
 byteOf of (b ∷ text) = of b
 
--- one byte
+-- one byte; that of a letter is written by its ASCII `code`, as `byte (code "T")`
 abbrev pub byte : ℕ → Format ℕ
 byte b = unit 1 (byteOf λ a. a) (λ a. a ∷ []) b b
 

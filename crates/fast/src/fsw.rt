@@ -62,7 +62,8 @@ fn turn_of(s: &[u8], at: usize) -> u32
     wide(s[at]) * 16 + hex(s[at + 1])
 }
 
-// A number, and 0 where there is none. The limits of the sum leave no first byte but the digits 2 to 7.
+// A number, and 0 where there is none. The sum is 4800 more, for the first digit as its byte, and its limits leave no first
+// byte but the digits 2 to 7.
 fn number(s: &[u8], at: usize) -> u16
     requires { ⌜ at + 3 ≤ length (now s) ⌝ }
     ensures { λ r. ⌜ SureValue 3 fswNumber (now (s .entry)) at r ⌝ }

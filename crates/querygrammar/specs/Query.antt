@@ -31,11 +31,17 @@ rangeEnd = after (code "t") queryBase
 abbrev pub rangeTail : Format (ℕ × ℕ)
 rangeTail = sequence queryBase λ b. rangeEnd
 
+abbrev pub keyText : Format (ℕ × ((ℕ ⊎ ℕ) × (ℕ ⊎ ℕ)))
+keyText = after (code "S") keyTail
+
+abbrev pub rangeText : Format (ℕ × ℕ)
+rangeText = after (code "R") rangeTail
+
 abbrev pub ItemText : Type 0
 ItemText = (ℕ × ((ℕ ⊎ ℕ) × (ℕ ⊎ ℕ))) ⊎ (ℕ × ℕ)
 
 abbrev pub item : Format ItemText
-item = either (after (code "S") keyTail) (after (code "R") rangeTail)
+item = either keyText rangeText
 
 -- a signbox item may carry a coordinate; a prefix item may not
 abbrev pub coordinate : Format (ℕ × ℕ)

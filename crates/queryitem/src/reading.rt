@@ -3,9 +3,8 @@ ghost use mathlib.Core.Path.{_≡_};
 ghost use Prim.Native.Nat.{_+_, _^_, _≤_};
 ghost use lib.ListN.{length};
 ghost use mathlib.Core.Logic.{inl, inr};
-ghost use Rattle.charset.specs.Bytes.{after};
 ghost use Rattle.format.specs.Format.{optional};
-ghost use Rattle.querygrammar.specs.Query.{keyItem, rangeItem, itemOf, soughtOf, keyTail, rangeTail, item, coordinate, signboxItem};
+ghost use Rattle.querygrammar.specs.Query.{keyItem, rangeItem, itemOf, soughtOf, keyTail, rangeText, item, coordinate, signboxItem};
 ghost use Rattle.queryitem.specs.Numbers.{turnOf, bare, numbersOf};
 ghost use Rattle.queryitem.specs.Pieces.{given, openAt, failedAs, pieceAt, placed, sort, soughtAt};
 use charset::Charset;
@@ -128,7 +127,7 @@ fn key_at(s: &[u8], at: usize) -> Piece
 // The R of an item and what follows it.
 fn range_at(s: &[u8], at: usize) -> Piece
     requires { ⌜ at + 32 ≤ 2 ^ 64 ⌝ }
-    ensures { λ r. ⌜ r ≡ pieceAt (after 82 rangeTail) (λ p. bare (itemOf (inr p))) (now (s .entry)) at ⌝ }
+    ensures { λ r. ⌜ r ≡ pieceAt rangeText (λ p. bare (itemOf (inr p))) (now (s .entry)) at ⌝ }
 {
     let letter = token::reading::byte_at(s, at, b'R');
     let Token::Value(_) = letter else {
