@@ -11,8 +11,8 @@ use Rattle.reader.proofs.Limits.{Known, not-read, was-read, known}
 use Rattle.sign.specs.Reading.{readingOf}
 use Rattle.sign.proofs.Readings.{reading-done}
 use Rattle.sign.proofs.Transcribing.{sign-within}
-use Rattle.halofret.specs.Layouts.{readingNumbers, signNumbers, signLeft}
-use Rattle.halofret.specs.Inner.{signIn, Counted}
+use Rattle.layout.specs.Layouts.{readingNumbers, signNumbers, signLeft}
+use Rattle.layout.specs.Inner.{signIn, Counted}
 use Rattle.halofret.proofs.Left.{when-refused}
 
 module _ (set : Charset) (text : List ℕ) (h : Head) (prefix codes xs ys : List ℕ) (v : ReadInto set text h prefix codes xs ys) where

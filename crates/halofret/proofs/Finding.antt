@@ -1,25 +1,15 @@
 -- Where a fetched line lies.
 use Prim.Native.Nat.{ℕ, _-_, _≤_, _<_}
-use mathlib.Core.Path.{_≡_, sym, ap, _∙_}
+use mathlib.Core.Path.{_≡_, ap}
 use mathlib.Core.List.{List, [], _∷_}
-use lib.ListN.{length, drop, length-drop}
-use lib.Seq.{length-take-le}
-use native.Mathlib.Omega.{arith}
+use lib.ListN.{length}
 use borrow.Author.Tests.{le-leb, lt-leb}
 use Rattle.token.specs.Result.{Result, refusal, done}
-use Rattle.lines.specs.Lines.{lines, lineOf, lineStart}
-use Rattle.lines.proofs.Starts.{Line}
+use Rattle.lines.specs.Lines.{lines}
 use Rattle.fetching.specs.declared.Refusal.{Refusal}
 use Rattle.fetching.specs.Fetching.{Entry, fetching, refusalAs}
 use Rattle.fetching.proofs.Fetches.{Accepted}
-use Rattle.halofret.specs.Dictionaries.{lineNumbers, fetchedNumbers}
-
-pub line-told : (which : ℕ) (d : List ℕ) (k a e : ℕ) → a ≡ lineStart d k → Line d k a e → (0 ∷ which ∷ a ∷ (e - a) ∷ []) ≡ lineNumbers which d k
-line-told which d k a e s l =
-    let high = l .high in
-    let size : e - a ≡ length (lineOf d k) =
-    sym (length-take-le (e - a) (drop a d) (omega (arith, length-drop a d))) ∙ ap length (l .part) in
-    λ i. 0 ∷ which ∷ s i ∷ size i ∷ []
+use Rattle.layout.specs.Dictionaries.{lineNumbers, fetchedNumbers}
 
 module _ (d s : List ℕ) (k : ℕ) where
   pub fetch-refused : (r : Refusal) → r ≡ refusalAs (fetching d s k) → (r .number ≡ 0 → ⊥) → (r .number ∷ 0 ∷ 0 ∷ 0 ∷ []) ≡ fetchedNumbers d s (fetching d s k)

@@ -1,5 +1,3 @@
 pub mod Left
-pub mod Copies
 pub mod Counts
-pub mod Laying
 pub mod Finding

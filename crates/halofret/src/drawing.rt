@@ -3,46 +3,11 @@ ghost use mathlib.Core.Path.{_≡_};
 ghost use Rattle.token.specs.Result.{written, output};
 ghost use Rattle.moving.specs.Moves.{shiftedText, centredText};
 ghost use Rattle.geometry.specs.Geometry.{boundsOf};
-ghost use Rattle.halofret.specs.Layouts.{setOf, writtenNumbers, boundsNumbers, centreLeft};
-use super::numbers::set_of;
-use super::numbers::written_numbers;
-use bounds::groups::ALL;
-use bounds::groups::HEAD;
-use bounds::groups::HEAD_WITH_TRUNK;
-use geometry::Bounds;
+ghost use Rattle.layout.specs.Layouts.{setOf, writtenNumbers, boundsNumbers, centreLeft};
+use layout::boxes::bounds_numbers;
+use layout::numbers::set_of;
+use layout::numbers::written_numbers;
 use token::refusal::DONE;
-
-// Bounds in the order of halofret_boxes.
-fn bounds_numbers(b: Bounds) -> [u64; 19]
-    ensures { λ r. ⌜ r ≡ boundsNumbers b ⌝ }
-{
-    let groups = b.groups;
-    let head = groups.boxes[HEAD];
-    let body = groups.boxes[HEAD_WITH_TRUNK];
-    let all = groups.boxes[ALL];
-    let doubled = b.doubled;
-    [
-        b.number as u64,
-        b.place as u64,
-        groups.present[HEAD] as u64,
-        head.left as u64,
-        head.top as u64,
-        head.right as u64,
-        head.bottom as u64,
-        groups.present[HEAD_WITH_TRUNK] as u64,
-        body.left as u64,
-        body.top as u64,
-        body.right as u64,
-        body.bottom as u64,
-        groups.present[ALL] as u64,
-        all.left as u64,
-        all.top as u64,
-        all.right as u64,
-        all.bottom as u64,
-        doubled.x as u64,
-        doubled.y as u64,
-    ]
-}
 
 // The boxes of head, head with trunk and all: present, left, top, right, bottom of each; then twice the centre, x and y.
 // The centre itself is written, x and y, and is as it was where the call is refused.

@@ -4,7 +4,6 @@
 
 pub mod dictionaries;
 pub mod drawing;
-pub mod numbers;
 pub mod queries;
 pub mod signs;
 pub mod symbols;

@@ -1,59 +1,15 @@
 // Signs: reading, and transcription.
 ghost use mathlib.Core.Path.{_≡_};
-ghost use Prim.Native.Nat.{_+_, _≤_};
-ghost use lib.ListN.{length};
-ghost use lib.Seq.{paste};
 ghost use Rattle.token.specs.Result.{written, output};
 ghost use Rattle.reader.specs.Signs.{signOf};
 ghost use Rattle.sign.specs.Reading.{readingOf};
 ghost use Rattle.sign.specs.Transcription.{transcription};
-ghost use Rattle.halofret.specs.Layouts.{setOf, writtenNumbers, readingNumbers, signNumbers, signLeft};
-ghost use Rattle.halofret.specs.Inner.{signIn, Counted};
-use super::numbers::set_of;
-use super::numbers::written_numbers;
-use reader::arrays::Head;
+ghost use Rattle.layout.specs.Layouts.{setOf, writtenNumbers, readingNumbers, signLeft};
+use layout::numbers::set_of;
+use layout::numbers::written_numbers;
+use layout::signs::put_sign;
 use reader::arrays::read_into;
 use token::refusal::DONE;
-
-// Copies numbers into an array from a place on. A caller does not learn the array's length from its type, so it is said.
-fn put(to: &mut [u16; 229], at: usize, from: &[u16])
-    requires { ⌜ (length (now to) ≡ 229) × (at + length (now from) ≤ 229) ⌝ }
-    ensures is { λ _. ⌜ now (to .exit) ≡ paste (now (to .entry)) at (now (from .entry)) (length (now (from .entry))) ⌝ }
-    ensures size { λ _. ⌜ length (now (to .exit)) ≡ 229 ⌝ }
-{
-    let mut i: usize = 0;
-    while i < from.len() {
-        to[at + i] = from[i];
-        i += 1;
-    }
-}
-
-// Lays a sign out that was read into arrays. The zeros say the array's length, and cost nothing: all are written over.
-fn put_sign(
-    sign: &mut [u16; 229],
-    h: Head,
-    prefix: &[u16; 32],
-    codes: &[u16; 64],
-    xs: &[u16; 64],
-    ys: &[u16; 64],
-)
-    requires { ⌜ Counted h ⌝ }
-    ensures { λ _. ⌜ now (sign .exit) ≡ signNumbers (signIn h (now (prefix .entry)) (now (codes .entry)) (now (xs .entry)) (now (ys .entry))) ⌝ }
-{
-    let head = [
-        h.marker,
-        h.max_x,
-        h.max_y,
-        h.prefix_count as u16,
-        h.symbol_count as u16,
-    ];
-    *sign = [0u16; 229];
-    put(sign, 0, &head);
-    put(sign, 5, prefix);
-    put(sign, 37, codes);
-    put(sign, 101, xs);
-    put(sign, 165, ys);
-}
 
 // Reads a sign into 229 numbers: marker, maximum x and y, prefix count, symbol count, 32 prefix codes, then 64 codes, 64 x
 // and 64 y of the signbox. Refused: all of them are as they were, and not zeros.

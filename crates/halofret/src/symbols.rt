@@ -2,10 +2,10 @@
 ghost use mathlib.Core.Path.{_≡_};
 ghost use Rattle.symbol.specs.Codes.{codeRead, codeText};
 ghost use Rattle.token.specs.Result.{written, output};
-ghost use Rattle.halofret.specs.Layouts.{codeNumbers, writtenNumbers};
-use super::numbers::code_numbers;
-use super::numbers::written_numbers;
+ghost use Rattle.layout.specs.Layouts.{codeNumbers, writtenNumbers};
 use charset::Charset;
+use layout::numbers::code_numbers;
+use layout::numbers::written_numbers;
 
 // The code of a symbol key.
 #[no_mangle]

@@ -1,5 +1,5 @@
-use mathlib.Core.Path.{ap}
-use Rattle.halofret.specs.Dictionaries.{openedNumbers}
+use mathlib.Core.Path.{ap, _∙_}
+use Rattle.layout.specs.Dictionaries.{openedNumbers}
 use borrow.Author.Needs.{needs}
 use Rattle.halofret.proofs.dictionaries.halofret_open.Statement.{statement}
 use Rattle.halofret.proofs.dictionaries.halofret_open.Tie as tie
@@ -10,14 +10,16 @@ set-of-requires c κs = search needs
 open-requires : tie.Need-open-requires
 open-requires c κs = search needs
 
-cast-t9 : tie.Need-cast-t9
-cast-t9 c = search needs
+opened-numbers-requires : tie.Need-opened-numbers-requires
+opened-numbers-requires c κs = search needs
 
 same-length : tie.Need-same-length
 same-length c = search needs
 
 returns : tie.Need-returns
-returns c = rw (← c .before .before .before .before .before .before .set-of .ensures) (ap openedNumbers (c .before .before .before .before .«open» .ensures .0), c .before .before .before .before .«open» .ensures .1)
+returns c = rw (← c .before .before .before .before .before .set-of .ensures) (c .opened-numbers .ensures ∙ ap openedNumbers (c .before .before .before .«open» .ensures .0), c .before .before .before .«open» .ensures .1)
 
 pub halofret-open-spec : {M : Type 1} → statement M
-halofret-open-spec = tie.close (tie.spec set-of-requires open-requires cast-t9 same-length returns)
+halofret-open-spec =
+    tie.close
+    (tie.spec set-of-requires open-requires opened-numbers-requires same-length returns)

@@ -1,6 +1,6 @@
 use mir.Facts.{toZ-ofZ}
 use mathlib.Core.Path.{ap, _∙_}
-use Rattle.halofret.specs.Layouts.{writtenNumbers}
+use Rattle.layout.specs.Layouts.{writtenNumbers}
 use borrow.Author.Needs.{needs}
 use Rattle.halofret.proofs.drawing.halofret_shift.Statement.{statement}
 use Rattle.halofret.proofs.drawing.halofret_shift.Tie as tie

@@ -1,5 +1,5 @@
 use mathlib.Core.Path.{ap}
-use Rattle.halofret.specs.Layouts.{queryNumbers}
+use Rattle.layout.specs.Layouts.{queryNumbers}
 use borrow.Author.Needs.{needs}
 use Rattle.halofret.proofs.queries.halofret_read_query.Statement.{statement}
 use Rattle.halofret.proofs.queries.halofret_read_query.Tie as tie

@@ -1,5 +1,5 @@
 use mathlib.Core.Path.{ap, _∙_}
-use Rattle.halofret.specs.Layouts.{verdictNumbers}
+use Rattle.layout.specs.Layouts.{verdictNumbers}
 use borrow.Author.Needs.{needs}
 use Rattle.halofret.proofs.queries.halofret_verdict.Statement.{statement}
 use Rattle.halofret.proofs.queries.halofret_verdict.Tie as tie

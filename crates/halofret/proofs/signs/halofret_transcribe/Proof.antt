@@ -1,5 +1,5 @@
 use mathlib.Core.Path.{ap, _∙_}
-use Rattle.halofret.specs.Layouts.{writtenNumbers}
+use Rattle.layout.specs.Layouts.{writtenNumbers}
 use borrow.Author.Needs.{needs}
 use Rattle.halofret.proofs.signs.halofret_transcribe.Statement.{statement}
 use Rattle.halofret.proofs.signs.halofret_transcribe.Tie as tie

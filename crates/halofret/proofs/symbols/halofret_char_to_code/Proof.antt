@@ -1,5 +1,5 @@
 use mathlib.Core.Path.{ap, _∙_}
-use Rattle.halofret.specs.Layouts.{codeNumbers}
+use Rattle.layout.specs.Layouts.{codeNumbers}
 use borrow.Author.Needs.{needs}
 use Rattle.halofret.proofs.symbols.halofret_char_to_code.Statement.{statement}
 use Rattle.halofret.proofs.symbols.halofret_char_to_code.Tie as tie

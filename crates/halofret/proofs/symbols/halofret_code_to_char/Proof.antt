@@ -1,5 +1,5 @@
 use mathlib.Core.Path.{ap, _∙_}
-use Rattle.halofret.specs.Layouts.{writtenNumbers}
+use Rattle.layout.specs.Layouts.{writtenNumbers}
 use borrow.Author.Needs.{needs}
 use Rattle.halofret.proofs.symbols.halofret_code_to_char.Statement.{statement}
 use Rattle.halofret.proofs.symbols.halofret_code_to_char.Tie as tie

@@ -1,9 +1,9 @@
 use lib.ListN.{replicate}
 use mathlib.Core.Path.{refl}
-use Rattle.halofret.proofs.Laying.{whole-sign}
+use Rattle.layout.proofs.Laying.{whole-sign}
 use borrow.Author.Needs.{needs}
-use Rattle.halofret.proofs.signs.put_sign.Statement.{statement}
-use Rattle.halofret.proofs.signs.put_sign.Tie as tie
+use Rattle.layout.proofs.signs.put_sign.Statement.{statement}
+use Rattle.layout.proofs.signs.put_sign.Tie as tie
 
 cast-t8 : tie.Need-cast-t8
 cast-t8 c = search needs

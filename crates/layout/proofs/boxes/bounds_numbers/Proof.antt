@@ -1,7 +1,7 @@
-use Rattle.halofret.proofs.Laying.{as-number}
+use Rattle.layout.proofs.Laying.{as-number}
 use borrow.Author.Needs.{needs}
-use Rattle.halofret.proofs.drawing.bounds_numbers.Statement.{statement}
-use Rattle.halofret.proofs.drawing.bounds_numbers.Tie as tie
+use Rattle.layout.proofs.boxes.bounds_numbers.Statement.{statement}
+use Rattle.layout.proofs.boxes.bounds_numbers.Tie as tie
 
 element-copy-out-head : tie.Need-element-copy-out-head
 element-copy-out-head c = search needs

@@ -1,9 +1,9 @@
 use native.Mathlib.Omega.{arith}
 use Rattle.lines.proofs.Starts.{start-within, line-at}
-use Rattle.halofret.proofs.Finding.{line-told}
+use Rattle.layout.proofs.Finding.{line-told}
 use borrow.Author.Needs.{needs}
-use Rattle.halofret.proofs.dictionaries.line_numbers.Statement.{statement}
-use Rattle.halofret.proofs.dictionaries.line_numbers.Tie as tie
+use Rattle.layout.proofs.fetched.line_numbers.Statement.{statement}
+use Rattle.layout.proofs.fetched.line_numbers.Tie as tie
 
 line-start-requires : tie.Need-line-start-requires
 line-start-requires c κs = search needs

@@ -9,9 +9,9 @@ use mir.Val.{boolByte}
 use native.Mathlib.Omega.{arith}
 use Rattle.reader.specs.declared.arrays.Head.{Head}
 use Rattle.matching.specs.declared.Verdict.{Verdict}
-use Rattle.halofret.specs.Layouts.{headNumbers, signNumbers, verdictNumbers}
-use Rattle.halofret.specs.Inner.{signIn}
-use Rattle.halofret.proofs.Copies.{filled-none, filled-more, filled-all}
+use Rattle.layout.specs.Layouts.{headNumbers, signNumbers, verdictNumbers}
+use Rattle.layout.specs.Inner.{signIn}
+use Rattle.layout.proofs.Copies.{filled-none, filled-more, filled-all}
 
 in-order : (a b c d e : List ℕ) → (((a ++ b) ++ c) ++ d) ++ e ≡ a ++ (b ++ (c ++ (d ++ e)))
 in-order a b c d e = simp append-assoc

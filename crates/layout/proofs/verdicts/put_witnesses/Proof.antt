@@ -3,9 +3,9 @@ use mathlib.Core.Path.{_≡_, ap, _∙_}
 use lib.ListN.{length}
 use lib.Seq.{paste, paste-zero}
 use native.Mathlib.Omega.{arith}
-use Rattle.halofret.proofs.Copies.{copy-on}
-use Rattle.halofret.proofs.queries.put_witnesses.Statement.{statement}
-use Rattle.halofret.proofs.queries.put_witnesses.Tie as tie
+use Rattle.layout.proofs.Copies.{copy-on}
+use Rattle.layout.proofs.verdicts.put_witnesses.Statement.{statement}
+use Rattle.layout.proofs.verdicts.put_witnesses.Tie as tie
 
 abbrev Inv-loop : tie.InvT-loop
 Inv-loop all₀ witnesses i₀ all i = (i ≤ length witnesses) × (all ≡ paste all₀ 4 witnesses i)

@@ -1,9 +1,9 @@
 use mathlib.Core.Path.{_≡_}
 use lib.ListN.{length}
-use Rattle.halofret.proofs.Laying.{whole-verdict}
+use Rattle.layout.proofs.Laying.{whole-verdict}
 use borrow.Author.Needs.{needs}
-use Rattle.halofret.proofs.queries.verdict_numbers.Statement.{statement}
-use Rattle.halofret.proofs.queries.verdict_numbers.Tie as tie
+use Rattle.layout.proofs.verdicts.verdict_numbers.Statement.{statement}
+use Rattle.layout.proofs.verdicts.verdict_numbers.Tie as tie
 
 size : (c : tie.Start) → length (c .args .v .witnesses) ≡ 32
 size c = search needs

@@ -1,0 +1,48 @@
+// The character set, and answers of a few numbers.
+ghost use mathlib.Core.Path.{_≡_};
+ghost use Rattle.layout.specs.Layouts.{setOf, codeNumbers, writtenNumbers};
+ghost use Rattle.layout.specs.Dictionaries.{openedNumbers, narrowedNumbers};
+use charset::Charset;
+use dictionary::Opened;
+use run::Narrowed;
+use symbol::Code;
+use token::Written;
+
+// SWU for true and FSW for false.
+pub fn set_of(swu: bool) -> Charset
+    ensures { λ r. ⌜ r ≡ setOf swu ⌝ }
+{
+    if swu {
+        return Charset::Swu;
+    }
+    Charset::Fsw
+}
+
+pub fn code_numbers(c: Code) -> [u64; 3]
+    ensures { λ r. ⌜ r ≡ codeNumbers c ⌝ }
+{
+    [c.number as u64, c.place as u64, c.code as u64]
+}
+
+pub fn written_numbers(w: Written) -> [u64; 3]
+    ensures { λ r. ⌜ r ≡ writtenNumbers w ⌝ }
+{
+    [w.number as u64, w.place as u64, w.length as u64]
+}
+
+pub fn opened_numbers(r: Opened) -> [u64; 3]
+    ensures { λ a. ⌜ a ≡ openedNumbers r ⌝ }
+{
+    [r.number as u64, r.place as u64, r.lines as u64]
+}
+
+pub fn narrowed_numbers(r: Narrowed) -> [u64; 4]
+    ensures { λ a. ⌜ a ≡ narrowedNumbers r ⌝ }
+{
+    [
+        r.number as u64,
+        r.place as u64,
+        r.kept as u64,
+        r.dropped as u64,
+    ]
+}
