@@ -7,30 +7,20 @@
  * all numbers but the refusal and its place are 0.
  *
  * Every call takes any bytes and any numbers, and ends. answer[0] is the refusal number, 0 for
- * done; answer[1] is its place (but not in halofret_fetch), 0 unless named here:
- *
- *    1  the text is wrong                       offset of the first wrong byte; in SWU, of the
- *                                               four bytes that hold it
- *    2  the text stops early                    its length
- *    3  over 32 prefix symbols or items
- *    4  over 64 signbox symbols, or over 32 signbox items of a query
- *    5  a range ends below its start            offset of the first such R
- *    6  out or list is too short                the room needed
- *    7  the size list has not 125,184 bytes
- *    8  a signbox symbol has no size            the first such symbol, from 1
- *    9  a sign without symbols has no box
- *   10  a number to be written leaves 250 to 749
- *   11  n is over the list, or its first n entries do not rise in 1 to the line count
- *   12  a dictionary is neither empty nor ended by byte 10
- *   13  a line does not read as a sign          the line's number, from 1
- *   14  over 65,535 lines
- *   15  the symbol code is over 62,592
- *   16  no such entry
+ * done; answer[1] is its place, but not in halofret_fetch, which tells none.
  *
  * Of several refusals the one named first at the function is given. swu is the character set of
  * the text passed in: false for FSW, true for SWU. A query is always in FSW form. A size list has
- * two bytes, width then height, for each code from 1. Lent buffers must not overlap. A length may
- * be 0, but a pointer must not be null.
+ * two bytes, width then height, for each code from 1.
+ *
+ * Memory. Lent buffers must not overlap. A pointer that goes with a length or a room of 0 may be
+ * null; sign, centre and answer must not be. No call keeps a pointer, takes memory or has a state:
+ * calls on different memory may run at the same time, and any number may read the same text, size
+ * list or dictionary. halofret_narrow needs 68 KB of stack below its caller, every other function
+ * 4 KB.
+ *
+ * Time grows with the length of what is lent, in halofret_fetch with that of both dictionaries,
+ * whichever line is asked for.
  */
 #ifndef HALOFRET_H
 #define HALOFRET_H
@@ -39,75 +29,135 @@
 #include <stddef.h>
 #include <stdint.h>
 
+#define HALOFRET_VERSION "0.1.0"
+
 #ifdef __cplusplus
 extern "C" {
 #endif
 
+/* The refusal numbers. The place is 0 where none is named. */
+enum {
+    HALOFRET_DONE = 0,
+    HALOFRET_TEXT_WRONG = 1,          /* the text is wrong. Place: the offset of the first wrong
+                                         byte; in SWU, of the four bytes that hold it */
+    HALOFRET_TEXT_SHORT = 2,          /* the text stops early. Place: its length */
+    HALOFRET_PREFIX_LONG = 3,         /* over 32 prefix symbols or prefix items */
+    HALOFRET_SIGNBOX_LONG = 4,        /* over 64 signbox symbols, or 32 signbox items of a query */
+    HALOFRET_RANGE_REVERSED = 5,      /* a range ends below its start. Place: the first such R */
+    HALOFRET_ROOM_SHORT = 6,          /* out or list is too short. Place: the room needed */
+    HALOFRET_SIZES_LENGTH = 7,        /* the size list has not 125,184 bytes */
+    HALOFRET_SYMBOL_UNSIZED = 8,      /* a signbox symbol has no size. Place: the first, from 1 */
+    HALOFRET_NO_SYMBOLS = 9,          /* a sign without symbols has no box */
+    HALOFRET_NUMBER_OUTSIDE = 10,     /* a number to be written leaves 250 to 749 */
+    HALOFRET_LIST_WRONG = 11,         /* n is over the list, or its first n entries do not rise
+                                         in 1 to the line count */
+    HALOFRET_DICTIONARY_UNENDED = 12, /* a dictionary is neither empty nor ended by byte 10 */
+    HALOFRET_LINE_WRONG = 13,         /* a line is no sign. Place: the first such line, from 1 */
+    HALOFRET_TOO_MANY = 14,           /* over 65,535 lines */
+    HALOFRET_CODE_WRONG = 15,         /* the symbol code is over 62,592 */
+    HALOFRET_ENTRY_ABSENT = 16        /* no such entry */
+};
+
+/* Sizes: in bytes those of texts and of the size list, else in numbers. */
+enum {
+    HALOFRET_KEY_LENGTH = 6,
+    HALOFRET_CHARACTER_LENGTH = 4,
+    HALOFRET_LONGEST_FSW = 1033,
+    HALOFRET_LONGEST_SWU = 912,
+    HALOFRET_SIZES = 125184,
+    HALOFRET_MOST_CODE = 62592,
+    HALOFRET_MOST_PREFIX = 32,
+    HALOFRET_MOST_SYMBOLS = 64,
+    HALOFRET_MOST_ITEMS = 32,
+    HALOFRET_MOST_LINES = 65535,
+    HALOFRET_SIGN = 229
+};
+
+/* The lengths of the answers. */
+enum {
+    HALOFRET_CODE_ANSWER = 3,
+    HALOFRET_WRITTEN_ANSWER = 3,
+    HALOFRET_READ_ANSWER = 2,
+    HALOFRET_BOXES_ANSWER = 19,
+    HALOFRET_QUERY_ANSWER = 2,
+    HALOFRET_VERDICT_ANSWER = 36,
+    HALOFRET_OPEN_ANSWER = 3,
+    HALOFRET_NARROW_ANSWER = 4,
+    HALOFRET_FETCH_ANSWER = 4
+};
+
 /* The code of a symbol key: answer[2]. Refusals 1, 2. */
-void halofret_key_to_code(const uint8_t *key, size_t key_len, uint64_t answer[3]);
+void halofret_key_to_code(const uint8_t *key, size_t key_len,
+                          uint64_t answer[HALOFRET_CODE_ANSWER]);
 
 /* The code of a symbol character in UTF-8: answer[2]. Refusals 1, 2. */
-void halofret_char_to_code(const uint8_t *chr, size_t chr_len, uint64_t answer[3]);
+void halofret_char_to_code(const uint8_t *chr, size_t chr_len,
+                           uint64_t answer[HALOFRET_CODE_ANSWER]);
 
 /* Writes the key of a code at the start of out, its length in answer[2]. Refusals 15, 6. */
-void halofret_code_to_key(uint64_t code, uint8_t *out, size_t room, uint64_t answer[3]);
+void halofret_code_to_key(uint64_t code, uint8_t *out, size_t room,
+                          uint64_t answer[HALOFRET_WRITTEN_ANSWER]);
 
 /* Writes the character of a code at the start of out, its length in answer[2]. Refusals 15, 6. */
-void halofret_code_to_char(uint64_t code, uint8_t *out, size_t room, uint64_t answer[3]);
+void halofret_code_to_char(uint64_t code, uint8_t *out, size_t room,
+                           uint64_t answer[HALOFRET_WRITTEN_ANSWER]);
 
 /* Reads a sign. Writes to sign: marker (1 B, 2 L, 3 M, 4 R), maximum x, maximum y, prefix count,
  * symbol count, then 32 prefix codes, 64 symbol codes, 64 x and 64 y, zeros in unused places.
  * Refusals 1, 2, 3, 4. */
-void halofret_read(bool swu, const uint8_t *text, size_t len, uint16_t sign[229],
-                   uint64_t answer[2]);
+void halofret_read(bool swu, const uint8_t *text, size_t len, uint16_t sign[HALOFRET_SIGN],
+                   uint64_t answer[HALOFRET_READ_ANSWER]);
 
 /* Writes the sign in the other character set at the start of out, its length in answer[2].
  * Refusals 1, 2, 3, 4, 6. */
 void halofret_transcribe(bool swu, const uint8_t *text, size_t len, uint8_t *out, size_t room,
-                         uint64_t answer[3]);
+                         uint64_t answer[HALOFRET_WRITTEN_ANSWER]);
 
 /* The boxes of a sign: answer[2..16] has for head, head with trunk, and all: present, left, top,
  * right, bottom. answer[17] and [18] are twice the centre, x then y; centre is the centre itself.
  * Refusals 1, 2, 3, 4, 7, 9, 8. */
 void halofret_boxes(bool swu, const uint8_t *text, size_t len, const uint8_t *sizes,
-                    size_t sizes_len, float centre[2], uint64_t answer[19]);
+                    size_t sizes_len, float centre[2], uint64_t answer[HALOFRET_BOXES_ANSWER]);
 
 /* Writes the sign with all coordinates and the stated maximum moved, in its own character set, at
  * the start of out, its length in answer[2]. Refusals 1, 2, 3, 4, 10, 6. */
 void halofret_shift(bool swu, const uint8_t *text, size_t len, int32_t dx, int32_t dy,
-                    uint8_t *out, size_t room, uint64_t answer[3]);
+                    uint8_t *out, size_t room, uint64_t answer[HALOFRET_WRITTEN_ANSWER]);
 
 /* Writes the sign with its centre moved to 500 by 500 and its maximum computed, in its own
  * character set, at the start of out, its length in answer[2].
  * Refusals 1, 2, 3, 4, 7, 9, 8, 10, 6. */
 void halofret_centred(bool swu, const uint8_t *text, size_t len, const uint8_t *sizes,
-                      size_t sizes_len, uint8_t *out, size_t room, uint64_t answer[3]);
+                      size_t sizes_len, uint8_t *out, size_t room,
+                      uint64_t answer[HALOFRET_WRITTEN_ANSWER]);
 
 /* Says whether a query can be read. Refusals 1, 2, 3, 4, 5. */
-void halofret_read_query(const uint8_t *query, size_t query_len, uint64_t answer[2]);
+void halofret_read_query(const uint8_t *query, size_t query_len,
+                         uint64_t answer[HALOFRET_QUERY_ANSWER]);
 
 /* Whether the sign meets the query: answer[2] is 1 if so, and answer[4..35] then has for each
  * signbox item its first fitting symbol, from 1; otherwise answer[3] is the first condition unmet,
  * 0 for the prefix. Refusals of the query 1, 2, 3, 4, 5, then of the sign 1, 2, 3, 4. */
 void halofret_verdict(bool swu, const uint8_t *query, size_t query_len, const uint8_t *text,
-                      size_t len, uint64_t answer[36]);
+                      size_t len, uint64_t answer[HALOFRET_VERDICT_ANSWER]);
 
 /* Reads every line of a dictionary and writes 1 to the line count at the start of list; the count
  * in answer[2]. Room and place count entries. Refusals 12, 14, 13, 6. */
 void halofret_open(bool swu, const uint8_t *dict, size_t dict_len, uint16_t *list, size_t room,
-                   uint64_t answer[3]);
+                   uint64_t answer[HALOFRET_OPEN_ANSWER]);
 
 /* Narrows the first n entries of list to those that meet the query: they come first, rising, then
  * zeros to n, nothing changed beyond. answer[2] is how many were kept, answer[3] how many dropped.
  * Refusals 1, 2, 3, 4, 5 of the query, then 12, 14, 11, 13 for the first bad line listed. */
 void halofret_narrow(bool swu, const uint8_t *dict, size_t dict_len, uint16_t *list, size_t room,
-                     size_t n, const uint8_t *query, size_t query_len, uint64_t answer[4]);
+                     size_t n, const uint8_t *query, size_t query_len,
+                     uint64_t answer[HALOFRET_NARROW_ANSWER]);
 
 /* Finds a line by a number that runs on from the first dictionary into the second. answer[1] is 0
  * for the first or 1 for the second, answer[2] the line's start there, answer[3] its length without
  * byte 10. There is no place here: it is always 0. Writes nothing else. Refusals 12, 14, 16. */
 void halofret_fetch(const uint8_t *first, size_t first_len, const uint8_t *second,
-                    size_t second_len, size_t number, uint64_t answer[4]);
+                    size_t second_len, size_t number, uint64_t answer[HALOFRET_FETCH_ANSWER]);
 
 #ifdef __cplusplus
 }

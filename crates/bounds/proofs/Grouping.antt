@@ -2,7 +2,7 @@
 use Prim.Native.Nat.{ℕ, _+_}
 use mathlib.Core.Path.{_≡_, refl, sym, ap, _∙_}
 use mathlib.Core.Bool.{Bool, true, false, _||_}
-use mathlib.Core.List.{List, [], _∷_, _++_, map}
+use mathlib.Core.List.{List, [], _∷_, _++_, append-nil, map, map-append}
 use native.Mathlib.Numerals.{add-one}
 use Rattle.format.specs.Format.{choose, keep}
 use Rattle.grammar.specs.Sign.{Spatial}
@@ -15,24 +15,14 @@ pub upto-more : {A : Type 0} (g : ℕ → A) (i : ℕ) → upto g (i + 1) ≡ up
 unfolding upto
 upto-more g i = rw add-one
 
-map-more : {A B : Type 0} (f : A → B) (l : List A) (a : A) → map f (l ++ (a ∷ [])) ≡ map f l ++ (f a ∷ [])
-map-more f [] a = refl
-map-more f (b ∷ l) a = ap (λ m. f b ∷ m) (map-more f l a)
-
--- where a symbol more is kept, and where it is not
-keep-yes : {A : Type 0} (p : A → Bool) (l : List A) (a : A) → p a ≡ true → keep p (l ++ (a ∷ [])) ≡ keep p l ++ (a ∷ [])
+keep-append : {A : Type 0} (p : A → Bool) (l m : List A) → keep p (l ++ m) ≡ keep p l ++ keep p m
 unfolding keep
-keep-yes p [] a e = rw e
-keep-yes {A = A} p (b ∷ l) a e = rw (keep-yes p l a e) (go (p b))
+keep-append p [] m = refl
+keep-append p (a ∷ l) m = rw (keep-append p l m) (go (p a))
   where
-    go : (t : Bool) → choose t (b ∷ (keep p l ++ (a ∷ []))) (keep p l ++ (a ∷ [])) ≡ choose t (b ∷ keep p l) (keep p l) ++ (a ∷ [])
+    go : (t : Bool) → choose t (a ∷ (keep p l ++ keep p m)) (keep p l ++ keep p m) ≡ choose t (a ∷ keep p l) (keep p l) ++ keep p m
     go true = refl
     go false = refl
-
-keep-no : {A : Type 0} (p : A → Bool) (l : List A) (a : A) → p a ≡ false → keep p (l ++ (a ∷ [])) ≡ keep p l
-unfolding keep
-keep-no p [] a e = rw e
-keep-no p (b ∷ l) a e = rw (keep-no p l a e)
 
 grown-more : (a : Box) (l : List Box) (b : Box) → grownAll a (l ++ (b ∷ [])) ≡ grown (grownAll a l) b
 unfolding grownAll
@@ -50,15 +40,15 @@ group-more (a ∷ l) b = λ i. record { present = true; box = grown-more a l b i
 
 in-more : (picks : ℕ → Bool) (sizes : List ℕ) (l : List Spatial) (s : Spatial)
     → groupIn picks sizes (l ++ (s ∷ [])) ≡ choose (picks (s .code)) (taken (groupIn picks sizes l) (symbolBox sizes s)) (groupIn picks sizes l)
-in-more picks sizes l s = go (picks (s .code)) refl
+unfolding keep
+in-more picks sizes l s =
+    let kept = keep (λ t. picks (t .code)) l in
+    ap (λ m. groupOf (map (symbolBox sizes) m)) (keep-append (λ t. picks (t .code)) l (s ∷ [])) ∙ go kept (picks (s .code))
   where
-    go : (t : Bool) → picks (s .code) ≡ t → groupIn picks sizes (l ++ (s ∷ [])) ≡ choose t (taken (groupIn picks sizes l) (symbolBox sizes s)) (groupIn picks sizes l)
-    go true e =
-        let k = keep (λ t. picks (t .code)) l in
-        ap (λ m. groupOf (map (symbolBox sizes) m)) (keep-yes (λ t. picks (t .code)) l s e)
-        ∙ ap groupOf (map-more (symbolBox sizes) k s)
-        ∙ group-more (map (symbolBox sizes) k) (symbolBox sizes s)
-    go false e = ap (λ m. groupOf (map (symbolBox sizes) m)) (keep-no (λ t. picks (t .code)) l s e)
+    go : (kept : List Spatial) (t : Bool)
+        → groupOf (map (symbolBox sizes) (kept ++ choose t (s ∷ []) [])) ≡ choose t (taken (groupOf (map (symbolBox sizes) kept)) (symbolBox sizes s)) (groupOf (map (symbolBox sizes) kept))
+    go kept true = ap groupOf (map-append (symbolBox sizes) kept (s ∷ [])) ∙ group-more (map (symbolBox sizes) kept) (symbolBox sizes s)
+    go kept false = ap (λ m. groupOf (map (symbolBox sizes) m)) (append-nil kept)
 
 -- which groups a symbol goes to, by whether it is a head and whether it is a trunk
 three-more : (h t : Bool) (a b c : Group) (x : Box)

@@ -2,12 +2,12 @@
 use Prim.Native.Nat.{ℕ, _+_}
 use mathlib.Core.Bool.{Bool, _&&_, not}
 use mathlib.Core.List.{List, [], _∷_, map}
-use lib.Dec.{eqb}
+use lib.Dec.{eqb, ltb}
 use lib.ListN.{length}
 use Rattle.format.specs.Format.{choose}
 use Rattle.grammar.specs.Sign.{Spatial}
 use Rattle.token.specs.Refusal.{sizesLength, noSymbols, symbolUnsized}
-use Rattle.token.specs.Result.{Result, refusal, done}
+use Rattle.token.specs.Result.{Result, done, check}
 use Rattle.bounds.specs.declared.groups.Groups.{Groups}
 use Rattle.bounds.specs.Boxes.{widthOf, heightOf, groupsOf}
 
@@ -26,7 +26,7 @@ unsizedSymbol sizes l = firstUnsized sizes 1 (map (λ s. s .code) l)
 -- the groups of the symbols of a signbox
 unfoldable pub measured : List ℕ → List Spatial → Result Groups
 measured sizes l =
-    choose (not (eqb (length sizes) 125184)) (refusal sizesLength 0)
-    (choose (eqb (length l) 0) (refusal noSymbols 0)
-    (choose (not (eqb (unsizedSymbol sizes l) 0)) (refusal symbolUnsized (unsizedSymbol sizes l))
+    check (eqb (length sizes) 125184) sizesLength 0
+    (check (ltb 0 (length l)) noSymbols 0
+    (check (eqb (unsizedSymbol sizes l) 0) symbolUnsized (unsizedSymbol sizes l)
     (done (groupsOf sizes l))))

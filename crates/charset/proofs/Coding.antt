@@ -10,8 +10,9 @@ use borrow.Author.Tests.{eq-eqb, lt-ltb, le-ltb, ltb-true, ltb-false, eqb-true}
 use Rattle.format.specs.Format.{choose, unit}
 use Rattle.format.specs.Numeral.{Range}
 use Rattle.format.proofs.Lawful.{Lawful}
-use Rattle.format.proofs.Unit.{Coding, unit-lawful}
-use Rattle.format.proofs.Parts.{mapped-lawful}
+use Rattle.format.proofs.Exact.{Exact}
+use Rattle.format.proofs.ExactParts.{mapped-exact}
+use Rattle.format.proofs.Unit.{Coding, unit-exact}
 use Rattle.charset.specs.Bytes.{digitOf, digitByte, markerOf, markerByte, byteOf, scalarOf, utf8, byte, digit, letter, character}
 
 pub by-test {ℓ κ} : {A : Type ℓ} (P : A → Type κ) (t : Bool) {a b : A} → (t ≡ true → P a) → (t ≡ false → P b) → P (choose t a b)
@@ -74,18 +75,21 @@ bytes of to lo hi k reads writes = record {
     one (x ∷ []) e a b = ap (λ n. n ∷ []) (writes x b)
     one (x ∷ y ∷ t) e a b = absurd (omega arith)
 
-pub byte-lawful : (b : ℕ) → Lawful 1 (byte b)
-byte-lawful b = unit-lawful 1 (byteOf λ a. a) (λ a. a ∷ []) b b (omega arith) (bytes (λ a. a) (λ a. a) b b (omega arith) (λ v k. refl) (λ v k. refl))
+pub byte-exact : (b : ℕ) → Exact 1 (byte b)
+byte-exact b = unit-exact 1 (byteOf λ a. a) (λ a. a ∷ []) b b (bytes (λ a. a) (λ a. a) b b (omega arith) (λ v k. refl) (λ v k. refl)) (omega arith)
 
-pub digit-lawful : (lo hi : ℕ) → lo ≤ hi → hi ≤ 15 → Lawful 1 (digit lo hi)
-digit-lawful lo hi k h =
-    unit-lawful 1 (byteOf digitOf) (λ d. digitByte d ∷ []) lo hi (omega arith)
-    (bytes digitOf digitByte lo hi k (λ v j. digit-of-byte v (omega arith)) (λ b j. byte-of-digit b (omega arith)))
+pub digit-exact : (lo hi : ℕ) → lo ≤ hi → hi ≤ 15 → Exact 1 (digit lo hi)
+digit-exact lo hi k h =
+    unit-exact 1 (byteOf digitOf) (λ d. digitByte d ∷ []) lo hi
+    (bytes digitOf digitByte lo hi k (λ v j. digit-of-byte v (omega arith)) (λ b j. byte-of-digit b (omega arith))) (omega arith)
+
+pub letter-exact : (lo hi : ℕ) → lo ≤ hi → hi ≤ 4 → Exact 1 (letter lo hi)
+letter-exact lo hi k h =
+    unit-exact 1 (byteOf markerOf) (λ m. markerByte m ∷ []) lo hi
+    (bytes markerOf (λ m. markerByte m) lo hi k (λ v j. marker-of-byte v (omega arith)) (λ b j. byte-of-marker b (omega arith))) (omega arith)
 
 pub letter-lawful : (lo hi : ℕ) → lo ≤ hi → hi ≤ 4 → Lawful 1 (letter lo hi)
-letter-lawful lo hi k h =
-    unit-lawful 1 (byteOf markerOf) (λ m. markerByte m ∷ []) lo hi (omega arith)
-    (bytes markerOf (λ m. markerByte m) lo hi k (λ v j. marker-of-byte v (omega arith)) (λ b j. byte-of-marker b (omega arith)))
+letter-lawful lo hi k h = letter-exact lo hi k h .lawful
 
 six : (r : ℕ) → r < 64 → (128 + r) % 64 ≡ r
 six r h = omega arith
@@ -176,14 +180,19 @@ four lo hi k (w ∷ x ∷ y ∷ []) e a b = absurd (omega arith)
 four lo hi k (w ∷ x ∷ y ∷ z ∷ []) e a b = scalar-inv w x y z (omega arith)
 four lo hi k (w ∷ x ∷ y ∷ z ∷ v ∷ t) e a b = absurd (omega arith)
 
-pub character-lawful : (from lo hi : ℕ) → 0 < from → lo ≤ hi → from + hi < 2097152 → Lawful 4 (character from lo hi)
-character-lawful from lo hi p k h =
-    mapped-lawful 4 (unit 4 scalarOf utf8 (from + lo) (from + hi)) (λ c. c - from) (λ n. from + n) (Range lo hi)
-    (unit-lawful 4 scalarOf utf8 (from + lo) (from + hi) (omega arith)
+pub character-exact : (from lo hi : ℕ) → 0 < from → lo ≤ hi → from + hi < 2097152 → Exact 4 (character from lo hi)
+character-exact from lo hi p k h =
+    mapped-exact 4 (unit 4 scalarOf utf8 (from + lo) (from + hi)) (λ c. c - from) (λ n. from + n) (Range lo hi)
+    (unit-exact 4 scalarOf utf8 (from + lo) (from + hi)
     (record {
       least = omega arith;
       size = λ v a b. refl;
       reads = λ v a b. scalar-utf8 v (omega arith);
       writes = four (from + lo) (from + hi) (omega arith);
-    }))
-    (λ a ok. (omega (arith, ok .0), omega (arith, ok .1))) (λ a ok. omega (arith, ok .0)) (λ b ok. (omega (arith, ok .0), omega (arith, ok .1))) (λ b ok. omega arith)
+    }) (omega arith))
+    (record {
+      good = λ a ok. (omega (arith, ok .0), omega (arith, ok .1));
+      back = λ a ok. omega (arith, ok .0);
+      sound = λ b ok. (omega (arith, ok .0), omega (arith, ok .1));
+      forth = λ b ok. omega arith;
+    })

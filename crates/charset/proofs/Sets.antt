@@ -1,19 +1,20 @@
--- What the grammar of a sign asks of a character set, and that both have it.
+-- What the grammar of a sign and its law of places ask of a character set, and that both have it.
 use Prim.Native.Nat.{ℕ, zero, suc, _+_, _-_, _≤_, _<_}
 use mathlib.Core.List.{List, [], _∷_, _++_}
 use mathlib.Core.Path.{_≡_, refl, ap}
 use native.Mathlib.Omega.{arith}
-use Rattle.format.specs.Format.{value, other, wrong, Format, first, second, unit}
+use Rattle.format.specs.Format.{value, other, wrong, first, second, unit}
 use Rattle.format.specs.Numeral.{Range}
+use Rattle.format.proofs.Exact.{Exact}
 use Rattle.format.proofs.Delimited.{Fixed, unit-alone, mapped-wrong}
 use Rattle.format.proofs.Unit.{unit-below, unit-above}
 use Rattle.charset.specs.declared.Charset.{Charset}
 use Rattle.charset.specs.declared.Charset.the-variants.{Fsw, Swu}
-use Rattle.charset.specs.Bytes.{byteOf, markerOf, markerByte, scalarOf, utf8, byte, after}
+use Rattle.charset.specs.Bytes.{byteOf, markerOf, markerByte, scalarOf, utf8}
 use Rattle.charset.specs.Tokens.{Tokens, fsw, swu, tokens, key, nullOrKey, fswNumber, lastCode}
-use Rattle.charset.proofs.Coding.{marker-of-byte, scalar-utf8}
-use Rattle.charset.proofs.Units.{letter-delimited, character-delimited, after-delimited}
-use Rattle.charset.proofs.Keys.{number-delimited, key-delimited, null-or-key-delimited, null-or-key-size}
+use Rattle.charset.proofs.Coding.{marker-of-byte, scalar-utf8, letter-exact, character-exact}
+use Rattle.charset.proofs.Units.{letter-strict, character-strict, after-other, after-delimited, after-exact}
+use Rattle.charset.proofs.Keys.{number-strict, key-strict, null-or-key-strict, null-or-key-size}
 
 pub record LawfulTokens (t : Tokens) : Type 0 where
   pub marker : (lo hi : ℕ) → lo ≤ hi → hi ≤ 4 → Fixed (t .unit) (t .markerSize) (t .marker lo hi)
@@ -28,11 +29,6 @@ pub record LawfulTokens (t : Tokens) : Type 0 where
   pub no-prefix : (m : ℕ) (rest : List ℕ) → Range 1 4 m → t .marker 0 0 .read (t .marker 1 4 .write m ++ rest) ≡ other
   pub no-symbol : (top m : ℕ) (rest : List ℕ) → Range 1 4 m → t .symbolOrNull top .read (t .marker 1 4 .write m ++ rest) ≡ other
 
--- a byte that is not the one
-after-other : {A : Type 0} (b : ℕ) (f : Format A) (text : List ℕ) → byte b .read text ≡ other → after b f .read text ≡ other
-after-other {A = A} b f text e =
-    ap (λ r. first {A = ℕ × A} (first r λ a rest. second (λ v. (a, v)) rest (f .read rest)) λ p rest. value (p .1) rest) e
-
 marker-below : (m : ℕ) → Range 1 4 m → markerByte m < 83
 marker-below zero ok = absurd (omega (arith, ok .0))
 marker-below (suc zero) ok = omega arith
@@ -43,14 +39,14 @@ marker-below (suc (suc (suc (suc (suc m))))) ok = absurd (omega (arith, ok .1))
 
 pub fsw-lawful : LawfulTokens fsw
 fsw-lawful = record {
-  marker = λ lo hi h k. record { delimited = letter-delimited lo hi h k; size = λ v ok. refl };
+  marker = λ lo hi h k. record { delimited = letter-strict lo hi h k .delimited; size = λ v ok. refl };
   range = λ lo hi m ok. ok;
   alone = unit-alone 1 (byteOf markerOf) (λ m. markerByte m ∷ []);
-  symbol = λ top lo hi. record { delimited = after-delimited 83 (key top) (key-delimited top lo hi); size = λ v ok. refl };
+  symbol = λ top lo hi. record { delimited = after-delimited 83 (key top) (key-strict top lo hi .delimited); size = λ v ok. refl };
   symbolOrNull = λ top lo hi.
-      record { delimited = after-delimited 83 (nullOrKey top) (null-or-key-delimited top lo hi); size = λ v ok. ap suc (null-or-key-size top v) };
-  number = record { delimited = number-delimited; size = λ v ok. refl };
-  second = record { delimited = after-delimited 120 fswNumber number-delimited; size = λ v ok. refl };
+      record { delimited = after-delimited 83 (nullOrKey top) (null-or-key-strict top lo hi .delimited); size = λ v ok. ap suc (null-or-key-size top v) };
+  number = record { delimited = number-strict .delimited; size = λ v ok. refl };
+  second = record { delimited = after-delimited 120 fswNumber (number-strict .delimited); size = λ v ok. refl };
   no-prefix = λ m rest ok.
       let e = marker-of-byte m (ok .1) in
       unit-above 1 (byteOf markerOf) (λ m. markerByte m ∷ []) 0 0 (markerByte m ∷ []) rest refl (omega arith) (rw e (ok .0));
@@ -61,17 +57,17 @@ fsw-lawful = record {
 
 pub swu-lawful : LawfulTokens swu
 swu-lawful = record {
-  marker = λ lo hi h k. record { delimited = character-delimited 0x1d800 lo hi (omega arith) h (omega arith); size = λ v ok. refl };
+  marker = λ lo hi h k. record { delimited = character-strict 0x1d800 lo hi (omega arith) h (omega arith) .delimited; size = λ v ok. refl };
   range = λ lo hi m ok. ok;
   alone = λ lo hi text rest e.
       unit-alone 4 scalarOf utf8 (0x1d800 + lo) (0x1d800 + hi) text rest
       (mapped-wrong (λ c. c - 0x1d800) rest (unit 4 scalarOf utf8 (0x1d800 + lo) (0x1d800 + hi) .read text) e);
   symbol = λ top lo hi.
-      record { delimited = character-delimited 0x40000 1 (lastCode top) (omega arith) (omega arith) (omega arith); size = λ v ok. refl };
+      record { delimited = character-strict 0x40000 1 (lastCode top) (omega arith) (omega arith) (omega arith) .delimited; size = λ v ok. refl };
   symbolOrNull = λ top lo hi.
-      record { delimited = character-delimited 0x40000 0 (lastCode top) (omega arith) (omega arith) (omega arith); size = λ v ok. refl };
-  number = record { delimited = character-delimited (0x1d80c - 250) 250 749 (omega arith) (omega arith) (omega arith); size = λ v ok. refl };
-  second = record { delimited = character-delimited (0x1d80c - 250) 250 749 (omega arith) (omega arith) (omega arith); size = λ v ok. refl };
+      record { delimited = character-strict 0x40000 0 (lastCode top) (omega arith) (omega arith) (omega arith) .delimited; size = λ v ok. refl };
+  number = record { delimited = character-strict (0x1d80c - 250) 250 749 (omega arith) (omega arith) (omega arith) .delimited; size = λ v ok. refl };
+  second = record { delimited = character-strict (0x1d80c - 250) 250 749 (omega arith) (omega arith) (omega arith) .delimited; size = λ v ok. refl };
   no-prefix = λ m rest ok.
       let e : scalarOf (utf8 (0x1d800 + m)) ≡ 0x1d800 + m = scalar-utf8 (0x1d800 + m) (omega (arith, ok .1)) in
       ap (λ r. first r λ a rest. value (a - 0x1d800) rest)
@@ -85,3 +81,32 @@ swu-lawful = record {
 pub lawful : (set : Charset) → LawfulTokens (tokens set)
 lawful Fsw = fsw-lawful
 lawful Swu = swu-lawful
+
+pub record ExactTokens (t : Tokens) : Type 0 where
+  pub marker : (lo hi : ℕ) → lo ≤ hi → hi ≤ 4 → Exact (t .unit) (t .marker lo hi)
+  pub symbol : (top : ℕ) → 0x100 ≤ top → top ≤ 0x38b → Exact (t .unit) (t .symbol top)
+  pub symbolOrNull : (top : ℕ) → 0x100 ≤ top → top ≤ 0x38b → Exact (t .unit) (t .symbolOrNull top)
+  pub number : Exact (t .unit) (t .number)
+  pub second : Exact (t .unit) (t .second)
+
+fsw-exact : ExactTokens fsw
+fsw-exact = record {
+  marker = letter-exact;
+  symbol = λ top lo hi. after-exact 83 (key top) (key-strict top lo hi .exact);
+  symbolOrNull = λ top lo hi. after-exact 83 (nullOrKey top) (null-or-key-strict top lo hi .exact);
+  number = number-strict .exact;
+  second = after-exact 120 fswNumber (number-strict .exact);
+}
+
+swu-exact : ExactTokens swu
+swu-exact = record {
+  marker = λ lo hi h k. character-exact 0x1d800 lo hi (omega arith) h (omega arith);
+  symbol = λ top lo hi. character-exact 0x40000 1 (lastCode top) (omega arith) (omega arith) (omega arith);
+  symbolOrNull = λ top lo hi. character-exact 0x40000 0 (lastCode top) (omega arith) (omega arith) (omega arith);
+  number = character-exact (0x1d80c - 250) 250 749 (omega arith) (omega arith) (omega arith);
+  second = character-exact (0x1d80c - 250) 250 749 (omega arith) (omega arith) (omega arith);
+}
+
+pub exact : (set : Charset) → ExactTokens (tokens set)
+exact Fsw = fsw-exact
+exact Swu = swu-exact

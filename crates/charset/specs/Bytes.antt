@@ -60,7 +60,8 @@ markerByte m = choose (eqb m 0) (code "A") (choose (eqb m 1) (code "B") (choose 
 abbrev pub letter : ℕ → ℕ → Format ℕ
 letter lo hi = unit 1 (byteOf markerOf) (λ m. markerByte m ∷ []) lo hi
 
--- the code point of four bytes of UTF-8 (RFC 3629, section 3), and 0 where they are none
+-- the code point of four bytes of UTF-8 (RFC 3629, section 3); what bytes say that are not well-formed lies outside every
+-- range that is asked for
 unfoldable pub scalarOf : List ℕ → ℕ
 scalarOf [] = 0
 scalarOf (a ∷ []) = 0

@@ -4,105 +4,123 @@ use mathlib.Core.Path.{_≡_, refl, sym, ap, _∙_}
 use mathlib.Core.List.{List}
 use mathlib.Core.Bool.{Bool, true, false, not}
 use native.Mathlib.Omega.{arith}
-use borrow.Author.Tests.{le-leb, lt-leb, not-true, not-false}
-use lib.ListN.{length, take, drop}
+use borrow.Author.Tests.{le-leb, not-true, not-false}
+use lib.ListN.{length, take, drop, length-take}
+use Rattle.format.specs.Format.{All, keep}
 use Rattle.charset.specs.declared.Charset.{Charset}
-use Rattle.token.specs.Result.{onDone}
-use Rattle.querygrammar.specs.Query.{Query}
-use Rattle.query.specs.declared.arrays.Head.{Head}
+use Rattle.token.specs.Refusal.{listWrong, lineWrong}
+use Rattle.token.specs.Result.{done, onDone}
+use Rattle.reader.specs.Signs.{signOf}
+use Rattle.query.specs.declared.words.Head.{Head}
 use Rattle.query.specs.Inner.{ReadInto}
 use Rattle.query.proofs.Answers.{Known, not-read, was-read, known}
-use Rattle.matching.specs.Inner.{HoldsQuery}
-use Rattle.verdict.proofs.Answers.{query-read}
-use Rattle.lines.specs.Lines.{lines, ended, fewLines}
+use Rattle.verdict.proofs.Answers.{query-held}
+use Rattle.lines.specs.declared.checked.Counted.{Counted}
+use Rattle.lines.specs.Lines.{lines as linesOf, lineOf, fewLines}
+use Rattle.lines.specs.Checked.{lineCount, countedAs}
+use Rattle.lines.proofs.Counts.{count-whole, count-refused, count-done}
 use Rattle.run.specs.declared.Narrowed.{Narrowed}
-use Rattle.run.specs.Narrowing.{rising, listed, filled, narrowedBy}
-use Rattle.run.proofs.Calls.{query-refused, dictionary-refused, list-refused, line-refused}
-use Rattle.run.proofs.Rising.{listed-most}
-use Rattle.list.specs.Flags.{flagged}
-use Rattle.list.proofs.Flags.{flagged-most, flagged-flags, compacted-done}
+use Rattle.run.specs.Narrowing.{rising, listed, firstBad, notNarrowed, filled, narrowedBy}
+use Rattle.run.proofs.Calls.{query-refused, dictionary-refused, list-refused, line-refused, call-done}
+use Rattle.run.proofs.Keeping.{keep-length}
+use Rattle.run.proofs.Rising.{rising-within, listed-room, listed-valid}
+use Rattle.list.specs.Flags.{isMet, isSign, marked, judgedTo}
+use Rattle.list.proofs.Flags.{marked-length, judged-length}
 use Rattle.entries.specs.Entries.{readable}
-use Rattle.entries.specs.Judging.{meets, Flagged}
-use Rattle.dictionary.specs.Narrowing.{testOf, dictionaryRefusal, narrowed}
-use Rattle.dictionary.specs.Inner.{NarrowedBy}
+use Rattle.entries.specs.Judging.{meets, meetsWords, entryFlag}
+use Rattle.entries.proofs.Walk.{entries-inside, entries-wrong, entries-kept}
+use Rattle.dictionary.specs.Narrowing.{testOf, narrowed}
+use Rattle.dictionary.specs.Inner.{narrowedWords}
 
-abbrev pub refusedAs : ℕ → ℕ → Narrowed
-refusedAs number place = record { number = number; place = place; kept = 0; dropped = 0 }
+pub kept-most : (test : ℕ → Bool) (list : List ℕ) (n kept : ℕ) → kept ≡ length (keep test (take n list)) → kept ≤ n
+kept-most test list n kept e = omega (arith, keep-length test (take n list), length-take n list)
 
--- what is known once the dictionary and the list are checked
-module _ (dict list : List ℕ) (n count : ℕ) (c : count ≡ length (lines dict)) where
-  module _ (h : count ≤ 65535) where
-    few : fewLines dict ≡ true
-    few = le-leb (length (lines dict)) 65535 (omega arith)
+-- BY A QUERY IN WORDS
+module _ (set : Charset) (dict list : List ℕ) (n : ℕ) (words : List ℕ) where
+  pub by-dictionary : (c : Counted) → c ≡ countedAs (lineCount dict) → (c .number ≡ 0 → ⊥) → (r : Narrowed) → r ≡ notNarrowed (c .number) 0
+      → (r, list) ≡ narrowedWords set dict list n words
+  unfolding narrowedWords
+  by-dictionary c e z r f = ap (λ x. (x, list)) f ∙ dictionary-refused rising (readable set dict) list n refl (count-refused dict c e z)
 
-    pub fine : ended dict ≡ true → dictionaryRefusal dict ≡ 0
-    fine t = rw (t, few)
+  pub by-11 : (c : Counted) → c ≡ countedAs (lineCount dict) → c .number ≡ 0 → (b : Bool) → b ≡ listed (rising (c .lines)) list n → not b ≡ true
+      → (r : Narrowed) → r ≡ notNarrowed listWrong 0 → (r, list) ≡ narrowedWords set dict list n words
+  unfolding narrowedWords
+  by-11 c e z b l k r f =
+      ap (λ x. (x, list)) f ∙ list-refused rising (readable set dict) list n refl (count-done dict c e z) (sym l ∙ not-true b k)
 
-  module _ (b : Bool) (l : b ≡ listed (rising count) list n) where
-    same : b ≡ listed (rising (length (lines dict))) list n
-    same = l ∙ ap (λ m. listed (rising m) list n) c
+-- neither the dictionary nor the list is refused, and there is a flag for each entry
+pub record Ready (dict list : List ℕ) (n lines : ℕ) (before : List ℕ) : Type 0 where
+  pub counted : lineCount dict ≡ done lines
+  pub room : lines < length before
+  pub listed : listed (rising lines) list n ≡ true
 
-    pub unlisted : not b ≡ true → listed (rising (length (lines dict))) list n ≡ false
-    unlisted k = sym same ∙ not-true b k
+pub ready : (dict list : List ℕ) (n : ℕ) (c : Counted) (before : List ℕ) → c ≡ countedAs (lineCount dict) → c .number ≡ 0
+    → (fewLines dict ≡ true → length (linesOf dict) < length before) → (b : Bool) → b ≡ listed (rising (c .lines)) list n → not b ≡ false → Ready dict list n (c .lines) before
+ready dict list n c before e z room b l k =
+    let d = count-done dict c e z in
+    let w = count-whole dict (c .lines) d in
+    record {
+      counted = d;
+      room = omega (arith, room (le-leb (length (linesOf dict)) 65535 (omega (arith, w .few, w .lines))), w .lines);
+      listed = sym l ∙ not-false b k;
+    }
 
-    pub is-listed : not b ≡ false → listed (rising (length (lines dict))) list n ≡ true
-    is-listed k = sym same ∙ not-false b k
+module _ {dict list : List ℕ} {n lines : ℕ} {before : List ℕ} (x : Ready dict list n lines before) where
+  pub ready-list : n ≤ length list
+  ready-list = listed-room (rising lines) list n (x .listed)
 
-    pub within-flags : count ≤ 65535 → not b ≡ false → (room : ℕ) → (fewLines dict ≡ true → length (lines dict) ≤ room) → n ≤ room
-    within-flags h k room f = omega (arith, f (few h), listed-most (length (lines dict)) list n (is-listed k))
+  pub ready-lines : lines ≡ length (linesOf dict)
+  ready-lines = count-whole dict lines (x .counted) .lines
 
-pub kept-most : (list flags : List ℕ) (n kept : ℕ) → kept ≡ length (flagged (take n list) flags) → kept ≤ n
-kept-most list flags n kept e = omega (arith, flagged-most list flags n)
+  within : All (λ e. (0 < e) × (e ≤ lines)) (take n list)
+  within = rising-within lines (take n list) (listed-valid (rising lines) list n (x .listed))
 
--- BY A QUERY IN ARRAYS
-module _ (set : Charset) (dict list : List ℕ) (n : ℕ) (Held : Query → Type 0) where
-  pub by-12 : (r : Narrowed) → ended dict ≡ false → r ≡ refusedAs 12 0 → NarrowedBy set dict list n Held r list
-  by-12 r t e = record { is = λ q h. rw (e, t) (dictionary-refused (rising (length (lines dict))) (readable set dict) list n refl 12 (λ z. omega arith)) }
+  pub ready-inside : All (λ e. e < length before) (take n list)
+  ready-inside = entries-inside before (take n list) lines within (x .room)
 
-  pub by-14 : (r : Narrowed) (count : ℕ) → count ≡ length (lines dict) → 65535 < count → ended dict ≡ true → r ≡ refusedAs 14 0 → NarrowedBy set dict list n Held r list
-  by-14 r count c h t e =
-      let many = lt-leb (length (lines dict)) 65535 (omega arith) in
-      record { is = λ q a. rw (e, t, many) (dictionary-refused (rising (length (lines dict))) (readable set dict) list n refl 14 (λ z. omega arith)) }
+  pub marks-room : (marks : List ℕ) → marks ≡ marked (take n list) before → lines < length marks
+  marks-room marks m = omega (arith, x .room, ap length m, marked-length (take n list) before)
 
-  module _ (r : Narrowed) (f : dictionaryRefusal dict ≡ 0) where
-    pub by-11 : listed (rising (length (lines dict))) list n ≡ false → r ≡ refusedAs 11 0 → NarrowedBy set dict list n Held r list
-    by-11 l e = record { is = λ q a. ap (λ x. (x, list)) e ∙ list-refused (rising (length (lines dict))) (readable set dict) list n refl f l }
+  -- the listed entries are marked and judged
+  module _ (set : Charset) (words : List ℕ) {marks flags : List ℕ} (m : marks ≡ marked (take n list) before) (j : flags ≡ judgedTo (entryFlag set dict words) lines marks) where
+    pub flags-long : length flags ≡ length before
+    flags-long = ap length j ∙ judged-length (entryFlag set dict words) marks lines ∙ ap length m ∙ marked-length (take n list) before
 
-    module _ (l : listed (rising (length (lines dict))) list n ≡ true) {before flags : List ℕ} {wrong : ℕ} (j : Flagged set dict (take n list) Held before wrong flags) where
-      pub by-13 : (wrong ≡ 0 → ⊥) → r ≡ refusedAs 13 wrong → NarrowedBy set dict list n Held r list
-      by-13 z e =
-          record { is = λ q a. ap (λ x. (x, list)) e ∙ line-refused (rising (length (lines dict))) (readable set dict) list n refl wrong f l (j .first) z }
+    pub flags-inside : All (λ e. e < length flags) (take n list)
+    flags-inside = rw flags-long ready-inside
 
-      pub by-done : wrong ≡ 0 → (kept : ℕ) (after : List ℕ) → kept ≡ length (flagged (take n list) flags) → after ≡ filled n (flagged (take n list) flags) (drop n list)
-          → r ≡ record { number = 0; place = 0; kept = kept; dropped = n - kept } → NarrowedBy set dict list n Held r after
-      by-done z kept after ek ea e =
-          record {
-            is = λ q a.
-                ap (λ x. (x, after)) e
-                ∙ compacted-done (rising (length (lines dict))) (readable set dict) list n refl flags kept after f l (sym (j .first) ∙ z)
-                (ap (flagged (take n list)) (j .flags q a z) ∙ flagged-flags (meets set dict q) (take n list) (drop (length (take n list)) before))
-                ek
-                ea;
-          }
+    are : flags ≡ judgedTo (entryFlag set dict words) lines (marked (take n list) before)
+    are = j ∙ ap (judgedTo (entryFlag set dict words) lines) m
+
+    module _ {wrong : ℕ} (w : wrong ≡ firstBad (isSign flags) (take n list)) where
+      first : wrong ≡ firstBad (readable set dict) (take n list)
+      first = w ∙ ap (λ f. firstBad (isSign f) (take n list)) are ∙ entries-wrong set dict words before (take n list) lines within (x .room)
+
+      pub by-13 : (wrong ≡ 0 → ⊥) → (r : Narrowed) → r ≡ notNarrowed lineWrong wrong → (r, list) ≡ narrowedWords set dict list n words
+      unfolding narrowedWords
+      by-13 z r f = ap (λ x. (x, list)) f ∙ line-refused rising (readable set dict) list n refl (x .counted) wrong (x .listed) first z
+
+      pub by-done : wrong ≡ 0 → (kept : ℕ) (after : List ℕ) → kept ≡ length (keep (isMet flags) (take n list)) → after ≡ filled n (keep (isMet flags) (take n list)) (drop n list)
+          → (record { number = 0; place = 0; kept = kept; dropped = n - kept }, after) ≡ narrowedWords set dict list n words
+      unfolding narrowedWords
+      by-done z kept after ek ea =
+          let same = ap (λ f. keep (isMet f) (take n list)) are ∙ entries-kept set dict words before (take n list) lines within (x .room) in
+          call-done rising (readable set dict) list n refl (x .counted) kept after (x .listed) (sym first ∙ z) (ek ∙ ap length same) (ea ∙ ap (λ e. filled n e (drop n list)) same)
 
 -- WITH A QUERY AS TEXT
-module _ {s : List ℕ} {h : Head} {plo phi pturn lo hi turn xs ys : List ℕ} (v : ReadInto s h plo phi pturn lo hi turn xs ys)
-    (set : Charset) (dict list : List ℕ) (n : ℕ) where
-  pub with-refused : (r : Narrowed) → (h .number ≡ 0 → ⊥) → r ≡ refusedAs (h .number) (h .place) → (r, list) ≡ narrowed set dict list n s
+module _ {s : List ℕ} {h : Head} {words : List ℕ} (v : ReadInto s h words) (set : Charset) (dict list : List ℕ) (n : ℕ) where
+  pub with-refused : (r : Narrowed) → (h .number ≡ 0 → ⊥) → r ≡ notNarrowed (h .number) (h .place) → (r, list) ≡ narrowed set dict list n s
   unfolding narrowed
-  with-refused r z e = go (known s h plo phi pturn lo hi turn xs ys v)
+  with-refused r z e = go (known s h words v)
     where
-      go : Known s h plo phi pturn lo hi turn xs ys → (r, list) ≡ narrowedBy (testOf set dict s) (dictionaryRefusal dict) (rising (length (lines dict))) (readable set dict) list n
+      go : Known s h words v → (r, list) ≡ narrowedBy (testOf set dict s) (lineCount dict) rising (readable set dict) list n
       go (not-read q m) =
-          ap (λ x. (x, list)) e
-          ∙ query-refused (rising (length (lines dict))) (readable set dict) list n (dictionaryRefusal dict) (ap (onDone (meets set dict)) q)
-      go (was-read q x k a) = absurd (z (ap (λ k. k .number) k))
+          ap (λ x. (x, list)) e ∙ query-refused rising (readable set dict) list n (lineCount dict) (ap (onDone (meets set dict)) q)
+      go (was-read q x k w) = absurd (z k)
 
-  pub with-done : h .number ≡ 0 → (r : Narrowed) (after : List ℕ)
-      → NarrowedBy set dict list n (λ q. HoldsQuery q (h .kind) (h .«prefix_count») plo phi pturn (h .«item_count») lo hi turn xs ys (h .variance)) r after
-      → (r, after) ≡ narrowed set dict list n s
-  unfolding narrowed
+  pub with-done : h .number ≡ 0 → (r : Narrowed) (after : List ℕ) → (r, after) ≡ narrowedWords set dict list n words → (r, after) ≡ narrowed set dict list n s
+  unfolding narrowed narrowedWords
   with-done z r after j =
-      let k = query-read s h plo phi pturn lo hi turn xs ys v z in
-      j .is (k .query) (k .holds)
-      ∙ ap (λ q. narrowedBy (onDone (meets set dict) q) (dictionaryRefusal dict) (rising (length (lines dict))) (readable set dict) list n) (sym (k .is))
+      let k = query-held s h words v z in
+      let same : meetsWords set dict words ≡ meets set dict (k .query) = λ i e. k .same (signOf set (lineOf dict e)) i .met in
+      j ∙ ap (λ t. narrowedBy t (lineCount dict) rising (readable set dict) list n) (ap done same ∙ ap (onDone (meets set dict)) (sym (k .is)))

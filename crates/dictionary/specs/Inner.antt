@@ -1,19 +1,19 @@
--- What narrowing by a query that lies in lent arrays promises.
+-- What narrowing by a query that lies in lent words promises.
 use Prim.Native.Nat.{ℕ}
 use mathlib.Core.Path.{_≡_}
 use mathlib.Core.List.{List}
 use lib.ListN.{length}
 use Rattle.charset.specs.declared.Charset.{Charset}
 use Rattle.token.specs.Result.{done}
-use Rattle.querygrammar.specs.Query.{Query}
-use Rattle.lines.specs.Lines.{lines}
+use Rattle.lines.specs.Checked.{lineCount}
 use Rattle.run.specs.declared.Narrowed.{Narrowed}
 use Rattle.run.specs.Narrowing.{rising, narrowedBy}
 use Rattle.entries.specs.Entries.{readable}
-use Rattle.entries.specs.Judging.{meets}
-use Rattle.dictionary.specs.Narrowing.{dictionaryRefusal}
+use Rattle.entries.specs.Judging.{meetsWords}
 
--- the call, by whichever query is `Held`
-pub record NarrowedBy (set : Charset) (dict list : List ℕ) (n : ℕ) (Held : Query → Type 0) (r : Narrowed) (after : List ℕ) : Type 0 where
-  pub is : (q : Query) → Held q
-      → (r, after) ≡ narrowedBy (done (meets set dict q)) (dictionaryRefusal dict) (rising (length (lines dict))) (readable set dict) list n
+unfoldable pub narrowedWords : Charset → List ℕ → List ℕ → ℕ → List ℕ → Narrowed × List ℕ
+narrowedWords set dict list n words = narrowedBy (done (meetsWords set dict words)) (lineCount dict) rising (readable set dict) list n
+
+-- Lent flags are working memory: there are as many after the call as before, and what they hold then is left free.
+abbrev pub Working : List ℕ → List ℕ → Type 0
+Working before after = length after ≡ length before

@@ -3,19 +3,14 @@ use Prim.Native.Nat.{ℕ}
 use mathlib.Core.List.{List}
 use lib.ListN.{length}
 use Rattle.charset.specs.declared.Charset.{Charset}
-use Rattle.token.specs.Refusal.{dictionaryUnended, tooMany}
-use Rattle.token.specs.Result.{Result, refusal, done, inRoom, check}
-use Rattle.lines.specs.Lines.{ended, fewLines}
+use Rattle.token.specs.Result.{Result, refusal, done, inRoom}
+use Rattle.books.specs.Book.{bookOf}
+use Rattle.books.specs.Fills.{openingIn}
 use Rattle.dictionary.specs.declared.Opened.{Opened}
-use Rattle.entries.specs.Entries.{entriesOf, checkLines}
 
--- what is written into the list; refused as 12, 14, then 13
+-- what is written into the list, 1 to the line count; refused as 12, 14, then 13
 unfoldable pub opening : Charset → List ℕ → Result (List ℕ)
-opening set dict =
-    check (ended dict) dictionaryUnended 0
-    (check (fewLines dict) tooMany 0
-    (checkLines set dict (entriesOf dict)
-    (done (entriesOf dict))))
+opening set dict = openingIn (bookOf (set, dict))
 
 -- the answer; a list too short for all of it is refused as 6 with the room needed
 abbrev pub openedAs : Result (List ℕ) → Opened

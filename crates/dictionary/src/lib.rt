@@ -4,15 +4,11 @@ ghost use Rattle.token.specs.Result.{output};
 ghost use Rattle.dictionary.specs.Opening.{opening, opened};
 ghost use Rattle.dictionary.specs.Narrowing.{narrowed};
 use charset::Charset;
-use lines::walk::MOST_LINES;
-use lines::walk::count;
-use lines::walk::is_ended;
+use lines::checked::count_lines;
 use run::Narrowed;
-use token::refusal::DICTIONARY_UNENDED;
 use token::refusal::DONE;
 use token::refusal::LINE_WRONG;
 use token::refusal::ROOM_SHORT;
-use token::refusal::TOO_MANY;
 
 pub mod narrowing;
 
@@ -38,12 +34,11 @@ pub fn open(set: Charset, dict: &[u8], list: &mut [u16]) -> Opened
     ensures answer { λ r. ⌜ r ≡ opened (now (list .entry)) (opening set (now (dict .entry))) ⌝ }
     ensures memory { λ r. ⌜ now (list .exit) ≡ output (now (list .entry)) (opening set (now (dict .entry))) ⌝ }
 {
-    if !is_ended(dict) {
-        return not_opened(DICTIONARY_UNENDED, 0);
-    }
-    let n = count(dict);
-    if MOST_LINES < n {
-        return not_opened(TOO_MANY, 0);
+    let counted = count_lines(dict);
+    let number = counted.number;
+    let n = counted.lines;
+    if number != DONE {
+        return not_opened(number, 0);
     }
     let wrong = entries::reading::first_wrong(set, dict, n);
     if wrong != 0 {
@@ -65,6 +60,6 @@ pub fn open(set: Charset, dict: &[u8], list: &mut [u16]) -> Opened
 pub fn narrow(set: Charset, dict: &[u8], list: &mut [u16], n: usize, query: &[u8]) -> Narrowed
     ensures { λ r. ⌜ (r, now (list .exit)) ≡ narrowed set (now (dict .entry)) (now (list .entry)) n (now (query .entry)) ⌝ }
 {
-    let mut flags = [0u8; 65535];
+    let mut flags = [0u8; 65536];
     narrowing::narrow_with(set, dict, list, n, query, &mut flags)
 }

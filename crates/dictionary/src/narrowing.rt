@@ -1,90 +1,55 @@
-// Narrowing with lent flags, one for each entry of the list. No entry is written before every listed line is judged.
+// Narrowing with lent flags, one for each entry and one before them. No entry is written before every listed line is judged.
 ghost use mathlib.Core.Path.{_≡_};
 ghost use mathlib.Core.Bool.{true};
-ghost use Prim.Native.Nat.{_≤_};
+ghost use Prim.Native.Nat.{_<_};
 ghost use lib.ListN.{length};
-ghost use Rattle.lines.specs.Lines.{lines, fewLines};
-ghost use Rattle.matching.specs.Inner.{HoldsQuery};
-ghost use Rattle.verdict.specs.Inner.{Asked};
+ghost use Rattle.lines.specs.Lines.{lines as linesOf, fewLines};
+ghost use Rattle.matching.specs.Inner.{Laid};
 ghost use Rattle.dictionary.specs.Narrowing.{narrowed};
-ghost use Rattle.dictionary.specs.Inner.{NarrowedBy};
+ghost use Rattle.dictionary.specs.Inner.{narrowedWords, Working};
 use charset::Charset;
-use lines::walk::MOST_LINES;
-use lines::walk::count;
-use lines::walk::is_ended;
-use query::arrays::Head;
+use entries::judging::judge_listed;
+use lines::checked::count_lines;
+use list::entries::is_rising;
+use list::marks::compact;
+use list::marks::first_unread;
+use list::marks::mark;
+use queryitem::words::WORDS;
 use run::Narrowed;
-use token::refusal::DICTIONARY_UNENDED;
+use run::not_narrowed;
 use token::refusal::DONE;
 use token::refusal::LINE_WRONG;
 use token::refusal::LIST_WRONG;
-use token::refusal::TOO_MANY;
 
-fn not_narrowed(number: u8, place: usize) -> Narrowed
-    ensures { λ r. ⌜ r ≡ record { number = number; place = place; kept = 0; dropped = 0 } ⌝ }
-{
-    Narrowed {
-        number: number,
-        place: place,
-        kept: 0,
-        dropped: 0,
-    }
-}
-
-// Narrows by a query that was read into lent arrays.
+// Narrows by a query that was read into lent words.
 fn narrow_by<'a>(
     set: Charset,
     dict: &'a [u8],
     list: &'a mut [u16],
     n: usize,
-    q: Head,
-    plo: &'a [u16; 32],
-    phi: &'a [u16; 32],
-    pturn: &'a [u16; 32],
-    lo: &'a [u16; 32],
-    hi: &'a [u16; 32],
-    turn: &'a [u16; 32],
-    qx: &'a [u16; 32],
-    qy: &'a [u16; 32],
+    words: &'a [u16; WORDS],
     flags: &'a mut [u8],
 ) -> Narrowed
-    requires { ⌜ (fewLines (now dict) ≡ true → length (lines (now dict)) ≤ length (now flags)) ⌝ }
-    requires { ⌜ Asked (q .kind) (q .«prefix_count») (now plo) (now phi) (now pturn) (q .«item_count») (now lo) (now hi) (now turn) (now qx) (now qy) (q .variance) ⌝ }
-    ensures { λ r. ⌜ NarrowedBy set (now (dict .entry)) (now (list .entry)) n (λ a. HoldsQuery a (q .kind) (q .«prefix_count») (now (plo .entry)) (now (phi .entry)) (now (pturn .entry)) (q .«item_count») (now (lo .entry)) (now (hi .entry)) (now (turn .entry)) (now (qx .entry)) (now (qy .entry)) (q .variance)) r (now (list .exit)) ⌝ }
+    requires { ⌜ ((fewLines (now dict) ≡ true → length (linesOf (now dict)) < length (now flags))) × (Laid (now words)) ⌝ }
+    ensures answer { λ r. ⌜ (r, now (list .exit)) ≡ narrowedWords set (now (dict .entry)) (now (list .entry)) n (now (words .entry)) ⌝ }
+    ensures working { λ _. ⌜ Working (now (flags .entry)) (now (flags .exit)) ⌝ }
 {
-    if !is_ended(dict) {
-        return not_narrowed(DICTIONARY_UNENDED, 0);
+    let counted = count_lines(dict);
+    let number = counted.number;
+    let lines = counted.lines;
+    if number != DONE {
+        return not_narrowed(number, 0);
     }
-    let lines = count(dict);
-    if MOST_LINES < lines {
-        return not_narrowed(TOO_MANY, 0);
-    }
-    if !list::entries::is_rising(list, n, lines) {
+    if !is_rising(list, n, lines) {
         return not_narrowed(LIST_WRONG, 0);
     }
-    let wrong = entries::judging::judge_listed(
-        set,
-        dict,
-        list,
-        n,
-        q.kind,
-        q.prefix_count,
-        plo,
-        phi,
-        pturn,
-        q.item_count,
-        lo,
-        hi,
-        turn,
-        qx,
-        qy,
-        q.variance,
-        flags,
-    );
+    mark(list, n, flags);
+    judge_listed(set, dict, lines, words, flags);
+    let wrong = first_unread(list, n, flags);
     if wrong != 0 {
         return not_narrowed(LINE_WRONG, wrong);
     }
-    let kept = list::entries::compact(list, n, flags);
+    let kept = compact(list, n, flags);
     let dropped = n - kept;
     Narrowed {
         number: DONE,
@@ -103,46 +68,15 @@ pub fn narrow_with(
     query: &[u8],
     flags: &mut [u8],
 ) -> Narrowed
-    requires { ⌜ (fewLines (now dict) ≡ true → length (lines (now dict)) ≤ length (now flags)) ⌝ }
-    ensures { λ r. ⌜ (r, now (list .exit)) ≡ narrowed set (now (dict .entry)) (now (list .entry)) n (now (query .entry)) ⌝ }
+    requires { ⌜ (fewLines (now dict) ≡ true → length (linesOf (now dict)) < length (now flags)) ⌝ }
+    ensures answer { λ r. ⌜ (r, now (list .exit)) ≡ narrowed set (now (dict .entry)) (now (list .entry)) n (now (query .entry)) ⌝ }
+    ensures working { λ _. ⌜ Working (now (flags .entry)) (now (flags .exit)) ⌝ }
 {
-    let mut plo = [0u16; 32];
-    let mut phi = [0u16; 32];
-    let mut pturn = [0u16; 32];
-    let mut lo = [0u16; 32];
-    let mut hi = [0u16; 32];
-    let mut turn = [0u16; 32];
-    let mut qx = [0u16; 32];
-    let mut qy = [0u16; 32];
-    let q = query::arrays::read_into(
-        query,
-        &mut plo,
-        &mut phi,
-        &mut pturn,
-        &mut lo,
-        &mut hi,
-        &mut turn,
-        &mut qx,
-        &mut qy,
-    );
+    let mut words = [0u16; WORDS];
+    let q = query::words::read_into(query, &mut words);
     let number = q.number;
     if number != DONE {
         return not_narrowed(number, q.place);
     }
-    narrow_by(
-        set,
-        dict,
-        list,
-        n,
-        q,
-        &plo,
-        &phi,
-        &pturn,
-        &lo,
-        &hi,
-        &turn,
-        &qx,
-        &qy,
-        flags,
-    )
+    narrow_by(set, dict, list, n, &words, flags)
 }

@@ -1,146 +1,149 @@
--- The loop that judges the listed lines: what it has done so far, at its start, after a turn and at its end.
+-- The walk that judges the listed entries, and what their flags say in the end.
 use Prim.Native.Nat.{ℕ, _+_, _-_, _≤_, _<_}
 use mathlib.Core.Path.{_≡_, refl, sym, ap, _∙_}
-use mathlib.Core.List.{List, _∷_, _++_}
-use mathlib.Core.Bool.{Bool, true, false}
-use native.Mathlib.Numerals.{add-one}
+use mathlib.Core.List.{List, [], _∷_}
+use mathlib.Core.Bool.{Bool, true, false, not}
 use native.Mathlib.Nat.{zero-add}
+use native.Mathlib.Numerals.{add-one}
 use native.Mathlib.Omega.{arith}
-use lib.ListN.{length, getD, take, drop, set, length-set, length-take, drop-of-length-le}
-use lib.Seq.{drop-cons, getD-take, length-take-le}
-use mir.Val.{boolByte}
-use Rattle.format.specs.Format.{choose}
+use borrow.Author.Tests.{eq-eqb, ne-eqb}
+use lib.Dec.{eqb}
+use lib.ListN.{length, take, drop, set}
+use Rattle.format.specs.Format.{choose, All, keep}
 use Rattle.charset.specs.declared.Charset.{Charset}
 use Rattle.grammar.specs.Sign.{Meaning}
 use Rattle.token.specs.Result.{Result, refusal, done}
 use Rattle.reader.specs.Signs.{signOf}
 use Rattle.reader.proofs.Limits.{sign-counted}
-use Rattle.querygrammar.specs.Query.{Query}
 use Rattle.matching.specs.declared.Verdict.{Verdict}
-use Rattle.matching.specs.Meets.{Judgement, unmet, met, verdictOf, answered}
-use Rattle.verdict.specs.Verdict.{verdictOn}
-use Rattle.lines.specs.Lines.{lines, firstLine, lineOf, lineStart}
-use Rattle.lines.proofs.Starts.{Line, start-first, line-at}
-use Rattle.run.specs.Narrowing.{risingOver, rising, listed, firstBad}
-use Rattle.run.proofs.Rising.{rising-parts, listed-room, listed-valid}
-use Rattle.list.specs.Flags.{flagOf, flagsOf}
-use Rattle.list.proofs.Flags.{flags-more}
+use Rattle.matching.specs.Meets.{Judgement, unmet, met, answered}
+use Rattle.matching.specs.Inner.{verdictWords}
+use Rattle.verdict.specs.Inner.{verdictOnWords}
+use Rattle.lines.specs.Lines.{lines as linesOf, firstLine, lineOf, lineStart}
+use Rattle.lines.proofs.Starts.{Line, start-first, start-within, line-at}
+use Rattle.run.specs.Narrowing.{firstBad}
+use Rattle.list.specs.Flags.{listedFlag, metFlag, noSignFlag, flagOf, isMet, isSign, marked, judgedTo}
+use Rattle.list.proofs.Flags.{keep-agree, bad-agree, marked-length, marked-all, judged-length, judged-all}
 use Rattle.entries.specs.Entries.{isDone, readable, firstWrong}
-use Rattle.entries.specs.Judging.{meets, Flagged}
+use Rattle.entries.specs.Judging.{meetsWords, flagBy, lineFlag, entryFlag}
 
-answered-done : (j : Judgement) → answered j .number ≡ 0
-answered-done (unmet condition) = refl
-answered-done (met witnesses) = refl
+-- THE FLAG OF A VERDICT
+module _ (v : Verdict) where
+  pub flag-wrong : (v .number ≡ 0 → ⊥) → noSignFlag ≡ flagBy v
+  unfolding flagBy
+  flag-wrong z = rw (ne-eqb (v .number) 0 z)
 
--- what the number of a verdict says of the sign
-module _ (q : Query) (c : Charset) (text : List ℕ) where
-  pub verdict-read : verdictOn q (signOf c text) .number ≡ 0 → isDone (signOf c text) ≡ true
-  unfolding verdictOn
-  verdict-read z = go (signOf c text) refl z
-    where
-      go : (r : Result Meaning) → signOf c text ≡ r → verdictOn q r .number ≡ 0 → isDone r ≡ true
-      go (refusal number place) e k = absurd (omega (arith, sign-counted c text number place e))
-      go (done m) e k = refl
+  module _ (z : v .number ≡ 0) where
+    pub flag-met : v .met ≡ true → metFlag ≡ flagBy v
+    unfolding flagBy
+    flag-met m = rw (eq-eqb (v .number) 0 z, m)
 
-  pub verdict-refused : (verdictOn q (signOf c text) .number ≡ 0 → ⊥) → isDone (signOf c text) ≡ false
-  unfolding verdictOn
-  verdict-refused z = go (signOf c text) z
-    where
-      go : (r : Result Meaning) → (verdictOn q r .number ≡ 0 → ⊥) → isDone r ≡ false
-      go (refusal number place) k = refl
-      go (done m) k = absurd (k (answered-done (verdictOf q m)))
+    pub flag-unmet : v .met ≡ false → listedFlag ≡ flagBy v
+    unfolding flagBy
+    flag-unmet m = rw (eq-eqb (v .number) 0 z, m)
 
-pub byte-flag : (b : Bool) → boolByte b ≡ flagOf b
-byte-flag true = refl
-byte-flag false = refl
+-- it says whether the line is a sign, and whether that meets the query
+module _ (words : List ℕ) (set : Charset) (text : List ℕ) where
+  answered-sign : (j : Judgement) → not (eqb (flagBy (answered j)) noSignFlag) ≡ true
+  unfolding flagBy
+  answered-sign (unmet n) = refl
+  answered-sign (met ws) = refl
 
--- i of the first n entries were judged, the last of them `last`, and the line after that starts at `start`
-pub record Judging (c : Charset) (dict list : List ℕ) (n : ℕ) (Held : Query → Type 0) (before flags : List ℕ) (start last i : ℕ) : Type 0 where
-  pub most : i ≤ n
-  pub room : n ≤ length list
-  pub spare : n ≤ length before
-  pub long : length flags ≡ length before
-  pub here : start ≡ lineStart dict (last + 1)
-  pub rises : risingOver last (length (lines dict)) (drop i (take n list)) ≡ true
-  pub wrong : firstWrong c dict (drop i (take n list)) ≡ firstWrong c dict (take n list)
-  pub flagged : (q : Query) → Held q → flags ≡ flagsOf (meets c dict q) (take i list) ++ drop i before
+  answered-met : (j : Judgement) → eqb (flagBy (answered j)) metFlag ≡ answered j .met
+  unfolding flagBy
+  answered-met (unmet n) = refl
+  answered-met (met ws) = refl
 
-pub judging-start : (c : Charset) (dict list : List ℕ) (n : ℕ) (Held : Query → Type 0) (before : List ℕ)
-    → listed (rising (length (lines dict))) list n ≡ true → n ≤ length before → Judging c dict list n Held before before 0 0 0
-judging-start c dict list n Held before h m =
-    record {
-      most = omega arith;
-      room = listed-room (rising (length (lines dict))) list n h;
-      spare = m;
-      long = refl;
-      here = start-first dict ∙ ap (lineStart dict) (sym (zero-add 1));
-      rises = listed-valid (rising (length (lines dict))) list n h;
-      wrong = refl;
-      flagged = λ q a. refl;
-    }
+  flag-sign-by : (r : Result Meaning) → signOf set text ≡ r → not (eqb (flagBy (verdictOnWords words r)) noSignFlag) ≡ isDone r
+  unfolding flagBy verdictOnWords
+  flag-sign-by (refusal number place) e =
+      let n = sign-counted set text number place e in
+      rw (ne-eqb number 0 (λ z. omega arith))
+  flag-sign-by (done m) e = answered-sign (verdictWords words (m .prefix) (m .symbols))
 
-module _ {c : Charset} {dict list : List ℕ} {n : ℕ} {Held : Query → Type 0} {before flags : List ℕ} {start last i : ℕ} (j : Judging c dict list n Held before flags start last i) where
-  pub judging-end : n ≤ i → Flagged c dict (take n list) Held before 0 flags
-  unfolding firstBad
-  judging-end h =
-      let s : i ≡ n = omega (arith, j .most) in
-      let l : length (take n list) ≤ i = omega (arith, length-take n list) in
-      let m : length (take n list) ≡ n = length-take-le n list (j .room) in
-      record {
-        first = ap (firstWrong c dict) (sym (drop-of-length-le (take n list) l)) ∙ j .wrong;
-        flags = λ q a z. j .flagged q a ∙ rw (s, m);
-      }
+  flag-sign : not (eqb (lineFlag set words text) noSignFlag) ≡ isDone (signOf set text)
+  flag-sign = flag-sign-by (signOf set text) refl
 
-  module _ (h : i < n) where
-    abbrev entry : ℕ
-    entry = getD list i 0
+  flag-meets-by : (r : Result Meaning) → signOf set text ≡ r → eqb (flagBy (verdictOnWords words r)) metFlag ≡ verdictOnWords words r .met
+  unfolding flagBy verdictOnWords
+  flag-meets-by (refusal number place) e =
+      let n = sign-counted set text number place e in
+      rw (ne-eqb number 0 (λ z. omega arith))
+  flag-meets-by (done m) e = answered-met (verdictWords words (m .prefix) (m .symbols))
 
-    abbrev rest : List ℕ
-    rest = drop (i + 1) (take n list)
+  flag-meets : eqb (lineFlag set words text) metFlag ≡ verdictOnWords words (signOf set text) .met
+  flag-meets = flag-meets-by (signOf set text) refl
 
-    next : drop i (take n list) ≡ entry ∷ rest
-    next =
-        let m : i < length (take n list) = omega (arith, length-take-le n list (j .room)) in
-        rw (add-one, drop-cons (take n list) i 0 m, getD-take n list i 0 h)
+-- ONE LINE
+module _ (flags : List ℕ) (e flag : ℕ) where
+  pub line-unlisted : flagOf flags e ≡ 0 → flags ≡ choose (eqb (flagOf flags e) 0) flags (set flags e flag)
+  line-unlisted z = rw (eq-eqb (flagOf flags e) 0 z)
 
-    pub judging-entry : (last < entry) × (entry ≤ length (lines dict)) × (risingOver entry (length (lines dict)) rest ≡ true)
-    judging-entry = rising-parts last (length (lines dict)) entry rest (ap (risingOver last (length (lines dict))) (sym next) ∙ j .rises)
+  pub line-judged : (given : ℕ) → given ≡ flag → (flagOf flags e ≡ 0 → ⊥) → set flags e given ≡ choose (eqb (flagOf flags e) 0) flags (set flags e flag)
+  line-judged given g z = rw (g, ne-eqb (flagOf flags e) 0 z)
 
-    -- its line lies from a to end
-    pub judging-line : (a end : ℕ) → a ≡ lineStart dict entry → end ≡ a + length (firstLine (drop a dict)) → Line dict entry a end
-    judging-line a end e f = line-at dict entry a (omega (arith, judging-entry .0)) (judging-entry .1) e end f
+-- THE WALK: so many lines are passed, the next starts at `start`, and the entries passed are judged
+pub record Walking (c : Charset) (dict : List ℕ) (count : ℕ) (words before flags : List ℕ) (start passed : ℕ) : Type 0 where
+  pub lines : count ≡ length (linesOf dict)
+  pub most : passed ≤ count
+  pub here : start ≡ lineStart dict (passed + 1)
+  pub is : flags ≡ judgedTo (entryFlag c dict words) passed before
 
-    firsts : choose (readable c dict entry) (firstWrong c dict rest) entry ≡ firstWrong c dict (take n list)
-    unfolding firstBad
-    firsts = ap (firstWrong c dict) (sym next) ∙ j .wrong
+pub walking-start : (c : Charset) (dict : List ℕ) (count : ℕ) (words flags : List ℕ) → count ≡ length (linesOf dict) → Walking c dict count words flags flags 0 0
+unfolding judgedTo
+walking-start c dict count words flags h = record { lines = h; most = omega arith; here = start-first dict ∙ ap (lineStart dict) (sym (zero-add 1)); is = refl }
 
-    -- with the verdict on that line, of some query that is held
-    module _ {a end : ℕ} (l : Line dict entry a end) {q : Query} (held : Held q) (v : Verdict)
-        (is : (q : Query) → Held q → v ≡ verdictOn q (signOf c (take (end - a) (drop a dict)))) where
-      judged : (q : Query) → Held q → v ≡ verdictOn q (signOf c (lineOf dict entry))
-      judged q h = is q h ∙ ap (λ t. verdictOn q (signOf c t)) (l .part)
+module _ {c : Charset} {dict : List ℕ} {count : ℕ} {words before flags : List ℕ} {start passed : ℕ} (w : Walking c dict count words before flags start passed) where
+  pub walking-long : length flags ≡ length before
+  walking-long = ap length (w .is) ∙ judged-length (entryFlag c dict words) before passed
 
-      pub judging-wrong : (v .number ≡ 0 → ⊥) → Flagged c dict (take n list) Held before entry flags
-      judging-wrong z =
-          let r : readable c dict entry ≡ false = verdict-refused q c (lineOf dict entry) (λ e. z (ap (λ x. x .number) (judged q held) ∙ e)) in
-          record {
-            first = ap (λ t. choose t (firstWrong c dict rest) entry) (sym r) ∙ firsts;
-            flags = λ q a e. absurd (omega (arith, judging-entry .0));
-          }
+  pub walking-end : count ≤ passed → flags ≡ judgedTo (entryFlag c dict words) count before
+  walking-end h = let s : passed ≡ count = omega (arith, w .most) in w .is ∙ ap (λ n. judgedTo (entryFlag c dict words) n before) s
 
-      pub judging-more : v .number ≡ 0 → (flag : ℕ) → flag ≡ flagOf (v .met) → Judging c dict list n Held before (set flags i flag) (end + 1) entry (i + 1)
-      judging-more z flag f =
-          let r : readable c dict entry ≡ true = verdict-read q c (lineOf dict entry) (sym (ap (λ x. x .number) (judged q held)) ∙ z) in
-          record {
-            most = omega arith;
-            room = j .room;
-            spare = j .spare;
-            long = length-set flags i flag ∙ j .long;
-            here = l .next;
-            rises = judging-entry .2;
-            wrong = ap (λ t. choose t (firstWrong c dict rest) entry) (sym r) ∙ firsts;
-            flagged = λ q a.
-                ap (λ k. set k i flag) (j .flagged q a)
-                ∙ ap (set (flagsOf (meets c dict q) (take i list) ++ drop i before) i) (f ∙ ap (λ x. flagOf (x .met)) (judged q a))
-                ∙ flags-more (meets c dict q) list before i (omega (arith, j .room)) (omega (arith, j .spare));
-          }
+  module _ (h : passed < count) where
+    pub walking-within : start < length dict
+    walking-within = start-within dict (passed + 1) start (omega arith) (omega (arith, w .lines)) (w .here)
+
+    pub walking-line : (end : ℕ) → end ≡ start + length (firstLine (drop start dict)) → Line dict (passed + 1) start end
+    walking-line end e = line-at dict (passed + 1) start (omega arith) (omega (arith, w .lines)) (w .here) end e
+
+    pub walking-on : (end : ℕ) → Line dict (passed + 1) start end → (after : List ℕ)
+        → after ≡ choose (eqb (flagOf flags (passed + 1)) 0) flags (set flags (passed + 1) (lineFlag c words (take (end - start) (drop start dict))))
+        → Walking c dict count words before after (end + 1) (passed + 1)
+    unfolding judgedTo
+    walking-on end l after e =
+        record {
+          lines = w .lines;
+          most = omega arith;
+          here = l .next;
+          is = e ∙ rw (l .part, w .is, add-one passed);
+        }
+
+-- THE LISTED ENTRIES, once all are judged: their flags are those of their lines
+all-map : (P Q : ℕ → Type 0) (l : List ℕ) → ((e : ℕ) → P e → Q e) → All P l → All Q l
+all-map P Q [] f a = tt
+all-map P Q (e ∷ l) f a = (f e (a .0), all-map P Q l f (a .1))
+
+pub entries-inside : (before entries : List ℕ) (count : ℕ) → All (λ e. (0 < e) × (e ≤ count)) entries → count < length before → All (λ e. e < length before) entries
+entries-inside before entries count within room =
+    all-map (λ e. (0 < e) × (e ≤ count)) (λ e. e < length before) entries (λ e h. omega (arith, h .1)) within
+
+module _ (c : Charset) (dict words before entries : List ℕ) (count : ℕ) (within : All (λ e. (0 < e) × (e ≤ count)) entries) (room : count < length before) where
+  abbrev flagged : List ℕ
+  flagged = judgedTo (entryFlag c dict words) count (marked entries before)
+
+  flags-are : All (λ e. flagOf flagged e ≡ entryFlag c dict words e) entries
+  flags-are =
+      judged-all (entryFlag c dict words) (marked entries before) count entries within (omega (arith, marked-length entries before)) (marked-all entries before (entries-inside before entries count within room))
+
+  pub entries-wrong : firstBad (isSign flagged) entries ≡ firstWrong c dict entries
+  entries-wrong =
+      bad-agree (isSign flagged) (readable c dict) entries
+      (all-map (λ e. flagOf flagged e ≡ entryFlag c dict words e) (λ e. isSign flagged e ≡ readable c dict e) entries
+      (λ e h. ap (λ f. not (eqb f noSignFlag)) h ∙ flag-sign words c (lineOf dict e)) flags-are)
+
+  pub entries-kept : keep (isMet flagged) entries ≡ keep (meetsWords c dict words) entries
+  entries-kept =
+      keep-agree (isMet flagged) (meetsWords c dict words) entries
+      (all-map (λ e. flagOf flagged e ≡ entryFlag c dict words e) (λ e. isMet flagged e ≡ meetsWords c dict words e) entries
+      (λ e h. ap (λ f. eqb f metFlag) h ∙ flag-meets words c (lineOf dict e)) flags-are)

@@ -2,11 +2,9 @@
 use Prim.Native.Nat.{ℕ}
 use mathlib.Core.List.{List}
 use mathlib.Core.Bool.{Bool, true, false}
-use lib.Dec.{eqb}
 use lib.ListN.{length}
 use Rattle.charset.specs.declared.Charset.{Charset}
-use Rattle.token.specs.Refusal.{lineWrong}
-use Rattle.token.specs.Result.{Result, refusal, done, check}
+use Rattle.token.specs.Result.{Result, refusal, done}
 use Rattle.reader.specs.Signs.{signOf}
 use Rattle.run.specs.Narrowing.{upTo, firstBad}
 use Rattle.lines.specs.Lines.{lines, lineOf}
@@ -26,7 +24,3 @@ readable set dict e = isDone (signOf set (lineOf dict e))
 -- the first of the entries whose line it refuses, or 0
 abbrev pub firstWrong : Charset → List ℕ → List ℕ → ℕ
 firstWrong set dict entries = firstBad (readable set dict) entries
-
--- refused as 13 with that entry
-abbrev pub checkLines : {A : Type 0} → Charset → List ℕ → List ℕ → Result A → Result A
-checkLines set dict entries r = check (eqb (firstWrong set dict entries) 0) lineWrong (firstWrong set dict entries) r

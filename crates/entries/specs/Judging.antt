@@ -1,23 +1,32 @@
--- Which entries of a dictionary meet a query, and what the inner loop promises of their flags.
+-- Which entries of a dictionary meet a query, and the flags that judging gives them.
 use Prim.Native.Nat.{ℕ}
-use mathlib.Core.Path.{_≡_}
-use mathlib.Core.List.{List, _++_}
+use mathlib.Core.List.{List}
 use mathlib.Core.Bool.{Bool}
-use lib.ListN.{length, drop}
+use lib.Dec.{eqb}
+use Rattle.format.specs.Format.{choose}
 use Rattle.charset.specs.declared.Charset.{Charset}
 use Rattle.reader.specs.Signs.{signOf}
-use Rattle.lines.specs.Lines.{lineOf}
-use Rattle.list.specs.Flags.{flagsOf}
 use Rattle.querygrammar.specs.Query.{Query}
+use Rattle.matching.specs.declared.Verdict.{Verdict}
 use Rattle.verdict.specs.Verdict.{verdictOn}
-use Rattle.entries.specs.Entries.{firstWrong}
+use Rattle.verdict.specs.Inner.{verdictOnWords}
+use Rattle.lines.specs.Lines.{lineOf}
+use Rattle.list.specs.Flags.{listedFlag, metFlag, noSignFlag}
 
 -- the verdict of the query on the sign that the entry's line reads as
 abbrev pub meets : Charset → List ℕ → Query → ℕ → Bool
 meets set dict q e = verdictOn q (signOf set (lineOf dict e)) .met
 
--- What judging the lines of entries comes to: r is the first entry whose line is refused, or 0. If it is 0, the flags are those of
--- the entries by whichever query is `Held`, and those beyond them are as before.
-pub record Flagged (set : Charset) (dict entries : List ℕ) (Held : Query → Type 0) (before : List ℕ) (r : ℕ) (after : List ℕ) : Type 0 where
-  pub first : r ≡ firstWrong set dict entries
-  pub flags : (q : Query) → Held q → r ≡ 0 → after ≡ flagsOf (meets set dict q) entries ++ drop (length entries) before
+-- the same of a query that lies in words
+abbrev pub meetsWords : Charset → List ℕ → List ℕ → ℕ → Bool
+meetsWords set dict words e = verdictOnWords words (signOf set (lineOf dict e)) .met
+
+-- the flag of a listed entry: its line is no sign, or meets the query, or does not
+unfoldable pub flagBy : Verdict → ℕ
+flagBy v = choose (eqb (v .number) 0) (choose (v .met) metFlag listedFlag) noSignFlag
+
+abbrev pub lineFlag : Charset → List ℕ → List ℕ → ℕ
+lineFlag set words line = flagBy (verdictOnWords words (signOf set line))
+
+abbrev pub entryFlag : Charset → List ℕ → List ℕ → ℕ → ℕ
+entryFlag set dict words e = lineFlag set words (lineOf dict e)

@@ -1,77 +1,74 @@
-// Judging the listed lines of a dictionary by a query that lies in lent arrays.
+// Judging the listed entries of a dictionary by a query that lies in lent words, in one walk over its lines.
 ghost use mathlib.Core.Path.{_≡_};
-ghost use mathlib.Core.Bool.{true};
-ghost use Prim.Native.Nat.{_≤_};
-ghost use lib.ListN.{length, take};
-ghost use Rattle.lines.specs.Lines.{lines};
-ghost use Rattle.run.specs.Narrowing.{rising, listed};
-ghost use Rattle.matching.specs.Inner.{HoldsQuery};
-ghost use Rattle.verdict.specs.Inner.{Asked};
-ghost use Rattle.entries.specs.Judging.{Flagged};
+ghost use Prim.Native.Nat.{_<_};
+ghost use lib.Dec.{eqb};
+ghost use lib.ListN.{length, set as setAt};
+ghost use Rattle.format.specs.Format.{choose};
+ghost use Rattle.lines.specs.Lines.{lines as linesOf};
+ghost use Rattle.list.specs.Flags.{unlistedFlag, flagOf, judgedTo};
+ghost use Rattle.matching.specs.Inner.{Laid};
+ghost use Rattle.entries.specs.Judging.{flagBy, lineFlag, entryFlag};
 use charset::Charset;
 use lines::walk::line_end;
-use lines::walk::start_from;
+use list::marks::LISTED;
+use list::marks::MET;
+use list::marks::NO_SIGN;
+use list::marks::UNLISTED;
+use matching::Verdict;
+use queryitem::words::WORDS;
 use token::refusal::DONE;
 use verdict::judging::judge_text;
 
-// Reads the lines of the first n entries once, in one walk over the dictionary: 1 in an entry's flag if its sign meets the query, else 0.
-// Returns the first of the entries whose line the sign reader refuses, or 0.
+// The flag of a listed entry, by the verdict on its line.
+fn flag_by(v: Verdict) -> u8
+    ensures { λ r. ⌜ r ≡ flagBy v ⌝ }
+{
+    let number = v.number;
+    if number != DONE {
+        return NO_SIGN;
+    }
+    let met = v.met;
+    if met {
+        return MET;
+    }
+    LISTED
+}
+
+// Judges the line of entry e if it is listed; otherwise the line is not read.
+fn judge_line<'a>(
+    set: Charset,
+    line: &'a [u8],
+    words: &'a [u16; WORDS],
+    flags: &'a mut [u8],
+    e: usize,
+)
+    requires { ⌜ (e < length (now flags)) × Laid (now words) ⌝ }
+    ensures { λ _. ⌜ now (flags .exit) ≡ choose (eqb (flagOf (now (flags .entry)) e) unlistedFlag) (now (flags .entry)) (setAt (now (flags .entry)) e (lineFlag set (now (words .entry)) (now (line .entry)))) ⌝ }
+{
+    if flags[e] == UNLISTED {
+        return;
+    }
+    let flag = flag_by(judge_text(set, line, words));
+    flags[e] = flag;
+}
+
+// Judges every listed entry of a dictionary of so many lines: each listed line is read once, where it lies.
 pub fn judge_listed<'a>(
     set: Charset,
     dict: &'a [u8],
-    list: &'a [u16],
-    n: usize,
-    kind: u8,
-    m: usize,
-    plo: &'a [u16; 32],
-    phi: &'a [u16; 32],
-    pturn: &'a [u16; 32],
-    k: usize,
-    lo: &'a [u16; 32],
-    hi: &'a [u16; 32],
-    turn: &'a [u16; 32],
-    qx: &'a [u16; 32],
-    qy: &'a [u16; 32],
-    variance: u16,
+    lines: usize,
+    words: &'a [u16; WORDS],
     flags: &'a mut [u8],
-) -> usize
-    requires { ⌜ (listed (rising (length (lines (now dict)))) (now list) n ≡ true) × (n ≤ length (now flags)) ⌝ }
-    requires { ⌜ Asked kind m (now plo) (now phi) (now pturn) k (now lo) (now hi) (now turn) (now qx) (now qy) variance ⌝ }
-    ensures { λ r. ⌜ Flagged set (now (dict .entry)) (take n (now (list .entry))) (λ q. HoldsQuery q kind m (now (plo .entry)) (now (phi .entry)) (now (pturn .entry)) k (now (lo .entry)) (now (hi .entry)) (now (turn .entry)) (now (qx .entry)) (now (qy .entry)) variance) (now (flags .entry)) r (now (flags .exit)) ⌝ }
+)
+    requires { ⌜ (lines ≡ length (linesOf (now dict))) × (lines < length (now flags)) × Laid (now words) ⌝ }
+    ensures { λ _. ⌜ now (flags .exit) ≡ judgedTo (entryFlag set (now (dict .entry)) (now (words .entry))) lines (now (flags .entry)) ⌝ }
 {
     let mut start: usize = 0;
-    let mut last: usize = 0;
-    let mut i: usize = 0;
-    while i < n {
-        let e = list[i] as usize;
-        let a = start_from(dict, last + 1, start, e);
-        let end = line_end(dict, a);
-        let line = &dict[a..end];
-        let v = judge_text(
-            set,
-            line,
-            kind,
-            m,
-            plo,
-            phi,
-            pturn,
-            k,
-            lo,
-            hi,
-            turn,
-            qx,
-            qy,
-            variance,
-        );
-        let number = v.number;
-        if number != DONE {
-            return e;
-        }
-        let met = v.met;
-        flags[i] = met as u8;
+    let mut passed: usize = 0;
+    while passed < lines {
+        let end = line_end(dict, start);
+        passed += 1;
+        judge_line(set, &dict[start..end], words, flags, passed);
         start = end + 1;
-        last = e;
-        i += 1;
     }
-    0
 }

@@ -1,8 +1,7 @@
 // Reading the lines of a dictionary, each where it lies.
 ghost use mathlib.Core.Path.{_≡_};
-ghost use mathlib.Core.List.{_++_};
 ghost use Prim.Native.Nat.{_≤_};
-ghost use lib.ListN.{length, drop};
+ghost use lib.ListN.{length};
 ghost use Rattle.lines.specs.Lines.{lines};
 ghost use Rattle.run.specs.Narrowing.{entriesFrom};
 ghost use Rattle.entries.specs.Entries.{firstWrong};

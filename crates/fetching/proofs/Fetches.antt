@@ -13,42 +13,91 @@ use denote.Ref.{RefT, now}
 use Rattle.format.specs.Format.{choose}
 use Rattle.token.specs.Result.{Result, refusal, done, check}
 use Rattle.lines.specs.Lines.{lines, ended, fewLines, lineOf, lineStart, placeIn}
+use Rattle.lines.specs.declared.checked.Counted.{Counted}
+use Rattle.lines.specs.Checked.{lineCount, countedAs}
+use Rattle.lines.proofs.Counts.{Whole, count-whole, count-done}
 use Rattle.lines.proofs.Laws.{line-laws}
 use Rattle.fetching.specs.declared.Refusal.{Refusal}
 use Rattle.fetching.specs.Fetching.{Entry, inFirst, inSecond, entryOf, fetching, refusalAs, fetchedLine, fetchedPlace, FetchLaws}
 
-module _ (d s : List ℕ) (k : ℕ) where
-  pub first-unended : ended d ≡ false → fetching d s k ≡ refusal 12 0
+-- the two checks of each dictionary, over their tests
+abbrev counted : Bool → Bool → ℕ → Result ℕ
+counted t u n = check t 12 0 (check u 14 0 (done n))
+
+abbrev checked : Bool → Bool → Bool → Bool → Result Entry → Result Entry
+checked t₁ t₂ u₁ u₂ r = check t₁ 12 0 (check t₂ 12 0 (check u₁ 14 0 (check u₂ 14 0 r)))
+
+abbrev number : Result ℕ → ℕ
+number r = countedAs r .number
+
+module _ (n m : ℕ) (r : Result Entry) where
+  first-12 : (t₁ t₂ u₁ u₂ : Bool) → number (counted t₁ u₁ n) ≡ 12 → checked t₁ t₂ u₁ u₂ r ≡ refusal 12 0
+  first-12 false t₂ u₁ u₂ e = refl
+  first-12 true t₂ true u₂ e = absurd (omega arith)
+  first-12 true t₂ false u₂ e = absurd (omega arith)
+
+  second-wrong : (t₁ t₂ u₁ u₂ : Bool) → (number (counted t₁ u₁ n) ≡ 12 → ⊥) → (number (counted t₂ u₂ m) ≡ 0 → ⊥)
+      → checked t₁ t₂ u₁ u₂ r ≡ refusal (number (counted t₂ u₂ m)) 0
+  second-wrong false t₂ u₁ u₂ e z = absurd (e refl)
+  second-wrong true false u₁ u₂ e z = refl
+  second-wrong true true u₁ true e z = absurd (z refl)
+  second-wrong true true true false e z = refl
+  second-wrong true true false false e z = refl
+
+  first-14 : (t₁ t₂ u₁ u₂ : Bool) → number (counted t₂ u₂ m) ≡ 0 → (number (counted t₁ u₁ n) ≡ 12 → ⊥) → (number (counted t₁ u₁ n) ≡ 0 → ⊥)
+      → checked t₁ t₂ u₁ u₂ r ≡ refusal (number (counted t₁ u₁ n)) 0
+  first-14 false t₂ u₁ u₂ e y z = absurd (y refl)
+  first-14 true false u₁ u₂ e y z = absurd (omega arith)
+  first-14 true true true u₂ e y z = absurd (z refl)
+  first-14 true true false u₂ e y z = refl
+
+-- one law for each return of `fetch_refusal`
+module _ (d s : List ℕ) (k : ℕ) (a b : Counted) (e : a ≡ countedAs (lineCount d)) (f : b ≡ countedAs (lineCount s)) where
+  abbrev rest : Result Entry
+  rest = check (ltb 0 k) 16 0 (check (leb k (length (lines d) + length (lines s))) 16 0 (done (entryOf (length (lines d)) k)))
+
+  pub first-unended : a .number ≡ 12 → fetching d s k ≡ refusal (a .number) 0
   unfolding fetching
-  first-unended t = rw t
+  first-unended h = rw h (first-12 _ (length (lines s)) rest (ended d) (ended s) (fewLines d) (fewLines s) (sym (ap (λ c. c .number) e) ∙ h))
 
-  module _ (t : ended d ≡ true) where
-    pub second-unended : ended s ≡ false → fetching d s k ≡ refusal 12 0
+  module _ (h : a .number ≡ 12 → ⊥) where
+    pub second-refused : (b .number ≡ 0 → ⊥) → fetching d s k ≡ refusal (b .number) 0
     unfolding fetching
-    second-unended u = rw (t, u)
+    second-refused z =
+        rw f (second-wrong (length (lines d)) _ rest (ended d) (ended s) (fewLines d) (fewLines s) (λ q. h (ap (λ c. c .number) e ∙ q)) (λ q. z (ap (λ c. c .number) f ∙ q)))
 
-    module _ (u : ended s ≡ true) (n : ℕ) (e : n ≡ length (lines d)) where
-      pub first-many : 65535 < n → fetching d s k ≡ refusal 14 0
+    module _ (y : b .number ≡ 0) where
+      pub first-refused : (a .number ≡ 0 → ⊥) → fetching d s k ≡ refusal (a .number) 0
       unfolding fetching
-      first-many h = rw (t, u, ← e, lt-leb n 65535 h)
+      first-refused z =
+          rw e
+          (first-14 _ (length (lines s)) rest (ended d) (ended s) (fewLines d) (fewLines s) (sym (ap (λ c. c .number) f) ∙ y) (λ q. h (ap (λ c. c .number) e ∙ q))
+          (λ q. z (ap (λ c. c .number) e ∙ q)))
 
-      module _ (h : n ≤ 65535) (m : ℕ) (f : m ≡ length (lines s)) where
-        pub second-many : 65535 < m → fetching d s k ≡ refusal 14 0
+      module _ (x : a .number ≡ 0) where
+        firsts : Whole d (a .lines)
+        firsts = count-whole d (a .lines) (count-done d a e x)
+
+        seconds : Whole s (b .lines)
+        seconds = count-whole s (b .lines) (count-done s b f y)
+
+        pub few : (a .lines ≤ 65535) × (b .lines ≤ 65535)
+        few = (firsts .few, seconds .few)
+
+        asked : fetching d s k ≡ check (ltb 0 k) 16 0 (check (leb k (a .lines + b .lines)) 16 0 (done (entryOf (a .lines) k)))
         unfolding fetching
-        second-many q = rw (t, u, ← e, le-leb n 65535 h, ← f, lt-leb m 65535 q)
+        asked =
+            rw (firsts .whole, seconds .whole, ← firsts .lines, le-leb (a .lines) 65535 (firsts .few), ← seconds .lines, le-leb (b .lines) 65535 (seconds .few))
 
-        module _ (q : m ≤ 65535) where
-          pub no-entry : k ≡ 0 → fetching d s k ≡ refusal 16 0
-          unfolding fetching
-          no-entry z = rw (t, u, ← e, le-leb n 65535 h, ← f, le-leb m 65535 q, le-ltb 0 k (omega arith))
+        pub no-entry : k ≡ 0 → fetching d s k ≡ refusal 16 0
+        no-entry z = asked ∙ rw (le-ltb 0 k (omega arith))
 
-          pub past-entries : (k ≡ 0 → ⊥) → n + m < k → fetching d s k ≡ refusal 16 0
-          unfolding fetching
-          past-entries z w = rw (t, u, ← e, le-leb n 65535 h, ← f, le-leb m 65535 q, lt-ltb 0 k (omega arith), lt-leb k (n + m) w)
+        module _ (z : k ≡ 0 → ⊥) where
+          pub past-entries : a .lines + b .lines < k → fetching d s k ≡ refusal 16 0
+          past-entries w = asked ∙ rw (lt-ltb 0 k (omega arith), lt-leb k (a .lines + b .lines) w)
 
-          pub an-entry : (k ≡ 0 → ⊥) → k ≤ n + m → fetching d s k ≡ done (entryOf n k)
-          unfolding fetching
-          an-entry z w = rw (t, u, ← e, le-leb n 65535 h, ← f, le-leb m 65535 q, lt-ltb 0 k (omega arith), le-leb k (n + m) w)
+          pub an-entry : k ≤ a .lines + b .lines → fetching d s k ≡ done (entryOf (a .lines) k)
+          an-entry w = asked ∙ rw (lt-ltb 0 k (omega arith), le-leb k (a .lines + b .lines) w)
 
 pub answered : (d s : List ℕ) (k : ℕ) (f : Result Entry) (r : Refusal) → fetching d s k ≡ f → r ≡ refusalAs f → r ≡ refusalAs (fetching d s k)
 answered d s k f r e q = q ∙ ap refusalAs (sym e)

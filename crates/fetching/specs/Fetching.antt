@@ -6,9 +6,10 @@ use lib.Dec.{leb, ltb}
 use lib.ListN.{length}
 use denote.Ref.{RefT, now}
 use Rattle.format.specs.Format.{choose}
-use Rattle.token.specs.Refusal.{dictionaryUnended, tooMany, entryAbsent}
+use Rattle.token.specs.Refusal.{entryAbsent}
 use Rattle.token.specs.Result.{Result, refusal, done, check}
-use Rattle.lines.specs.Lines.{lines, ended, fewLines, lineOf, lineStart, placeIn}
+use Rattle.lines.specs.Lines.{lines, ended, lineOf, lineStart, placeIn}
+use Rattle.lines.specs.Checked.{checkEnded, checkFew}
 use Rattle.fetching.specs.declared.Refusal.{Refusal}
 
 -- line k of the first dictionary, or of the second
@@ -23,10 +24,10 @@ entryOf n number = choose (leb number n) (inFirst number) (inSecond (number - n)
 -- 12 for the first, then the second; 14 likewise; then 16
 unfoldable pub fetching : List ℕ → List ℕ → ℕ → Result Entry
 fetching first second number =
-    check (ended first) dictionaryUnended 0
-    (check (ended second) dictionaryUnended 0
-    (check (fewLines first) tooMany 0
-    (check (fewLines second) tooMany 0
+    checkEnded (ended first)
+    (checkEnded (ended second)
+    (checkFew (length (lines first))
+    (checkFew (length (lines second))
     (check (ltb 0 number) entryAbsent 0
     (check (leb number (length (lines first) + length (lines second))) entryAbsent 0
     (done (entryOf (length (lines first)) number)))))))

@@ -1,14 +1,12 @@
 // Fetching a line from two dictionaries by its number. No line is read: they may be of either character set, or no signs.
 ghost use mathlib.Core.Path.{_≡_};
 ghost use Rattle.fetching.specs.Fetching.{fetching, fetchedLine, fetchedPlace, refusalAs};
-use lines::walk::MOST_LINES;
+use lines::checked::count_lines;
 use lines::walk::count;
-use lines::walk::is_ended;
 use lines::walk::line;
 use token::refusal::DICTIONARY_UNENDED;
 use token::refusal::DONE;
 use token::refusal::ENTRY_ABSENT;
-use token::refusal::TOO_MANY;
 
 // Whether fetching is refused.
 pub struct Refusal {
@@ -29,24 +27,24 @@ fn refusal_of(number: u8) -> Refusal
 pub fn fetch_refusal(first: &[u8], second: &[u8], number: usize) -> Refusal
     ensures { λ r. ⌜ r ≡ refusalAs (fetching (now (first .entry)) (now (second .entry)) number) ⌝ }
 {
-    if !is_ended(first) {
-        return refusal_of(DICTIONARY_UNENDED);
+    let firsts = count_lines(first);
+    let seconds = count_lines(second);
+    let early = firsts.number;
+    let late = seconds.number;
+    if early == DICTIONARY_UNENDED {
+        return refusal_of(early);
     }
-    if !is_ended(second) {
-        return refusal_of(DICTIONARY_UNENDED);
+    // 12 of the second comes before 14 of the first; two of 14 are alike
+    if late != DONE {
+        return refusal_of(late);
     }
-    let firsts = count(first);
-    if MOST_LINES < firsts {
-        return refusal_of(TOO_MANY);
-    }
-    let seconds = count(second);
-    if MOST_LINES < seconds {
-        return refusal_of(TOO_MANY);
+    if early != DONE {
+        return refusal_of(early);
     }
     if number == 0 {
         return refusal_of(ENTRY_ABSENT);
     }
-    if firsts + seconds < number {
+    if firsts.lines + seconds.lines < number {
         return refusal_of(ENTRY_ABSENT);
     }
     refusal_of(DONE)

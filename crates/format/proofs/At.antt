@@ -12,7 +12,7 @@ use borrow.Author.Tests.{ltb-true, ltb-false}
 use Rattle.format.specs.Format.{Answer, value, other, wrong, short, Format, first, second, sequence, mapped, either, orElse}
 use Rattle.format.specs.Located.{Located, found, wrongAt, cut, located, locate, andThen, onFound}
 use Rattle.format.proofs.Lawful.{Lawful, Says}
-use Rattle.format.proofs.Delimited.{Delimited, Fixed, solid}
+use Rattle.format.proofs.Delimited.{Firm, Delimited, Fixed, solid}
 
 -- a value at an offset of a text, and the text after it
 pub record Got {A : Type 0} (f : Format A) (s : List ℕ) (at : ℕ) (a : A) (next : ℕ) : Type 0 where
@@ -40,7 +40,7 @@ got-value f s at v rest h e q =
     record { reads = e ∙ ap (value v) y; valid = q .1; size = k; room = omega arith }
 
 module _ {A : Type 0} (w : ℕ) (f : Format A) (l : Lawful w f) (s : List ℕ) (at : ℕ) (h : at ≤ length s) where
-  got-go : (a : A) (next : ℕ) (r : Answer A) → f .read (drop at s) ≡ r → Says w f (drop at s) r → located (length s) at r ≡ found a next → Got f s at a next
+  got-go : (a : A) (next : ℕ) (r : Answer A) → f .read (drop at s) ≡ r → Says f (drop at s) r → located (length s) at r ≡ found a next → Got f s at a next
   got-go a next (value v rest) e q p =
       let x = found-inv p in
       rw (x .0, x .1) at (got-value f s at v rest h e (q .0, q .1))
@@ -65,22 +65,31 @@ module _ {A : Type 0} (w : ℕ) (f : Format A) (d : Delimited w f) (s : List ℕ
   pub delimited-got : (a : A) (next : ℕ) → locate f s at ≡ found a next → Got f s at a next
   delimited-got a next e = delimited-go a next (ltb (length s) at) refl e
 
-  -- what is wrong at its first unit, and further on
-  pub data Wronged (p : ℕ) : Type 0 where
-    here : p ≡ at → f .read (drop at s) ≡ other → Wronged p
-    later : (rest : List ℕ) → p ≡ length s - length rest → at < p → f .read (drop at s) ≡ wrong rest → Wronged p
+-- what is wrong at its first unit, and further on
+pub data Strays {A : Type 0} (f : Format A) (s : List ℕ) (at p : ℕ) : Type 0 where
+  here : p ≡ at → f .read (drop at s) ≡ other → Strays f s at p
+  later : (rest : List ℕ) → p ≡ length s - length rest → at < p → f .read (drop at s) ≡ wrong rest → Strays f s at p
 
-  wronged-go : (p : ℕ) (r : Answer A) → f .read (drop at s) ≡ r → located (length s) at r ≡ wrongAt p → Wronged p
-  wronged-go p (value v rest) e q = absurd (let z : _≡_ {A = ℕ} 0 1 = cc in omega arith)
-  wronged-go p other e q = here (let z : at ≡ p = cc in sym z) e
-  wronged-go p (wrong rest) e q =
+module _ {A : Type 0} (f : Format A) (firm : Firm f) (s : List ℕ) (at p : ℕ) where
+  strays-go : (r : Answer A) → f .read (drop at s) ≡ r → located (length s) at r ≡ wrongAt p → Strays f s at p
+  strays-go (value v rest) e q = absurd (let z : _≡_ {A = ℕ} 0 1 = cc in omega arith)
+  strays-go other e q = here (let z : at ≡ p = cc in sym z) e
+  strays-go (wrong rest) e q =
       let z : length s - length rest ≡ p = cc in
-      later rest (sym z) (omega (arith, z, d .firm (drop at s) rest e, length-drop at s)) e
-  wronged-go p short e q = absurd (let z : _≡_ {A = ℕ} 0 1 = cc in omega arith)
+      later rest (sym z) (omega (arith, z, firm (drop at s) rest e, length-drop at s)) e
+  strays-go short e q = absurd (let z : _≡_ {A = ℕ} 0 1 = cc in omega arith)
 
-  pub wronged : (p : ℕ) → locate f s at ≡ wrongAt p → Wronged p
+  pub firm-strays : locate f s at ≡ wrongAt p → Strays f s at p
   unfolding locate
-  wronged p e = wronged-go p (f .read (drop at s)) refl e
+  firm-strays e = strays-go (f .read (drop at s)) refl e
+
+-- the same of a delimited format
+module _ {A : Type 0} (w : ℕ) (f : Format A) (d : Delimited w f) (s : List ℕ) (at : ℕ) where
+  abbrev pub Wronged : ℕ → Type 0
+  Wronged = Strays f s at
+
+  pub wronged : (p : ℕ) → locate f s at ≡ wrongAt p → Strays f s at p
+  wronged = firm-strays f (d .firm) s at
 
 module _ {A : Type 0} (f : Format A) (s : List ℕ) (at : ℕ) where
   cut-go : (r : Answer A) → located (length s) at r ≡ cut → r ≡ short
@@ -175,7 +184,7 @@ module _ {A B : Type 0} (w : ℕ) (f : Format A) (g : Format B) (d : Delimited w
   unfolding locate
   either-second e = go (wronged w f d s at at e)
     where
-      go : Wronged w f d s at at → located {A = A ⊎ B} (length s) at (orElse (f .read (drop at s)) (g .read (drop at s))) ≡ onFound inr (located (length s) at (g .read (drop at s)))
+      go : Strays f s at at → located {A = A ⊎ B} (length s) at (orElse (f .read (drop at s)) (g .read (drop at s))) ≡ onFound inr (located (length s) at (g .read (drop at s)))
       go (here z o) = ap (λ r. located {A = A ⊎ B} (length s) at (orElse r (g .read (drop at s)))) o ∙ second-go (g .read (drop at s))
       go (later rest z k o) = absurd (omega arith)
 

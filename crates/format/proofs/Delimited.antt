@@ -4,20 +4,26 @@ use mathlib.Core.List.{List, [], _∷_, _++_}
 use mathlib.Core.Path.{_≡_, refl, sym, ap, _∙_}
 use mathlib.Core.Bool.{Bool, true, false}
 use mathlib.Core.Logic.{_⊎_, inl, inr}
+use mathlib.Core.Option.{none, some}
 use lib.Dec.{ltb}
 use lib.ListN.{length, take, drop, length-append}
 use native.Mathlib.Omega.{arith}
-use Rattle.format.specs.Format.{Answer, value, other, wrong, short, Format, choose, first, second, unit, sequence, mapped, either, orElse}
+use Rattle.format.specs.Format.{Answer, value, other, wrong, short, Format, choose, first, second, unit, sequence, mapped, maybe, optional, either, orElse}
 use Rattle.format.proofs.Lawful.{Lawful, Says}
 use Rattle.format.proofs.Sequence.{sequence-lawful}
-use Rattle.format.proofs.Parts.{mapped-lawful, either-lawful}
+use Rattle.format.proofs.Parts.{Inverse, mapped-lawful, either-lawful}
+use Rattle.format.proofs.Exact.{Exact}
+use Rattle.format.proofs.ExactParts.{sequence-exact, mapped-exact, either-exact}
+
+-- what is wrong is not the first unit: that would be another format's
+abbrev pub Firm : {A : Type 0} → Format A → Type 0
+Firm f = (text rest : List ℕ) → f .read text ≡ wrong rest → length rest < length text
 
 pub record Delimited (w : ℕ) {A : Type 0} (f : Format A) : Type 0 where
   pub lawful : Lawful w f
   pub free : (v : A) (rest : List ℕ) → f .Valid v → f .Follow v rest
   pub empty : f .read [] ≡ short
-  -- what is wrong is not the first unit: that would be another format's
-  pub firm : (text rest : List ℕ) → f .read text ≡ wrong rest → length rest < length text
+  pub firm : Firm f
 
 short-value : {A : Type 0} {X : Type 0} {v : A} {s : List ℕ} → short ≡ value v s → X
 short-value e = absurd (let z : _≡_ {A = ℕ} 0 1 = cc in omega arith)
@@ -43,28 +49,45 @@ solid-go w f t v ok (b ∷ u) e = omega arith
 pub solid : {A : Type 0} (w : ℕ) (f : Format A) → Delimited w f → (v : A) → f .Valid v → 1 ≤ length (f .write v)
 solid w f t v ok = solid-go w f t v ok (f .write v) refl
 
-second-firm : {B C : Type 0} (w : ℕ) (g : Format B) (c : B → C) (text rest : List ℕ) (r : Answer B) → Says w g text r → second c text r ≡ wrong rest → length rest ≤ length text
-second-firm w g c text rest (value b left) s e = value-wrong e
-second-firm w g c text rest other s e = let z : text ≡ rest = same-rest e in omega (arith, ap length z)
-second-firm w g c text rest (wrong left) s e =
-    let z : left ≡ rest = same-rest e in
-    omega (arith, ap length z, ap length (s .splits), length-append (s .front) left)
-second-firm w g c text rest short s e = short-wrong e
+-- where another format's unit stands, there is one
+pub nonempty : {A : Type 0} (w : ℕ) (f : Format A) → Delimited w f → (text : List ℕ) → f .read text ≡ other → 1 ≤ length text
+nonempty w f t [] e = absurd (let x = sym (t .empty) ∙ e in let z : _≡_ {A = ℕ} 0 1 = cc in omega arith)
+nonempty w f t (b ∷ text) e = omega arith
 
-pub first-firm : {A B : Type 0} (w : ℕ) (f : Format A) (g : A → Format B) → Delimited w f → ((a : A) → f .Valid a → Lawful w (g a)) → (text rest : List ℕ) (r : Answer A) → f .read text ≡ r → Says w f text r
-    → _≡_ {A = Answer (A × B)} (first r λ a rest. second (λ b. (a, b)) rest (g a .read rest)) (wrong rest) → length rest < length text
-first-firm w f g t m text rest (value a left) q s e =
-    omega (arith, second-firm w (g a) (λ b. (a, b)) left rest (g a .read left) (m a (s .1) .says left) e, ap length (s .0), length-append (f .write a) left, solid w f t a (s .1))
-first-firm w f g t m text rest other q s e = other-wrong e
-first-firm w f g t m text rest (wrong left) q s e = let z : left ≡ rest = same-rest e in omega (arith, ap length z, t .firm text left q)
-first-firm w f g t m text rest short q s e = short-wrong e
+second-firm : {B C : Type 0} (g : Format B) (c : B → C) → Firm g → (text rest : List ℕ) (r : Answer B) → g .read text ≡ r → second c text r ≡ wrong rest → length rest ≤ length text
+second-firm g c firm text rest (value b left) q e = value-wrong e
+second-firm g c firm text rest other q e = let z : text ≡ rest = same-rest e in omega (arith, ap length z)
+second-firm g c firm text rest (wrong left) q e = let z : left ≡ rest = same-rest e in omega (arith, ap length z, firm text left q)
+second-firm g c firm text rest short q e = short-wrong e
+
+module _ {A B : Type 0} (w : ℕ) (f : Format A) (g : A → Format B) (t : Delimited w f) (firm : (a : A) → f .Valid a → Firm (g a)) where
+  firm-go : (text rest : List ℕ) (r : Answer A) → f .read text ≡ r → Says f text r
+      → _≡_ {A = Answer (A × B)} (first r λ a rest. second (λ b. (a, b)) rest (g a .read rest)) (wrong rest) → length rest < length text
+  firm-go text rest (value a left) q s e =
+      omega (arith, second-firm (g a) (λ b. (a, b)) (firm a (s .1)) left rest (g a .read left) refl e, ap length (s .0), length-append (f .write a) left, solid w f t a (s .1))
+  firm-go text rest other q s e = other-wrong e
+  firm-go text rest (wrong left) q s e = let z : left ≡ rest = same-rest e in omega (arith, ap length z, t .firm text left q)
+  firm-go text rest short q s e = short-wrong e
+
+  pub sequence-firm : Firm (sequence f g)
+  sequence-firm text rest e = firm-go text rest (f .read text) refl (t .lawful .says text) e
+
+maybe-wrong : {A : Type 0} (text rest : List ℕ) (r : Answer A) → maybe none text r (λ a left. value (some a) left) ≡ wrong rest → r ≡ wrong rest
+maybe-wrong text rest (value a left) e = value-wrong e
+maybe-wrong text rest other e = value-wrong e
+maybe-wrong text rest (wrong left) e = ap wrong (same-rest e)
+maybe-wrong [] rest short e = value-wrong e
+maybe-wrong (b ∷ text) rest short e = short-wrong e
+
+pub optional-firm : {A : Type 0} (f : Format A) → Firm f → Firm (optional f)
+optional-firm f firm text rest e = firm text rest (maybe-wrong text rest (f .read text) e)
 
 pub sequence-delimited : {A B : Type 0} (w : ℕ) (f : Format A) (g : A → Format B) → Delimited w f → ((a : A) → f .Valid a → Delimited w (g a)) → Delimited w (sequence f g)
 sequence-delimited w f g t s = record {
   lawful = sequence-lawful w f g (t .lawful) (λ a ok. s a ok .lawful);
   free = λ v rest ok. (s (v .0) (ok .0) .free (v .1) rest (ok .1), t .free (v .0) (g (v .0) .write (v .1) ++ rest) (ok .0));
   empty = ap (λ r. first r λ a rest. second (λ b. (a, b)) rest (g a .read rest)) (t .empty);
-  firm = λ text rest e. first-firm w f g t (λ a ok. s a ok .lawful) text rest (f .read text) refl (t .lawful .says text) e;
+  firm = sequence-firm w f g t λ a ok. s a ok .firm;
 }
 
 pub mapped-wrong : {A B : Type 0} (to : A → B) (rest : List ℕ) (r : Answer A) → first r (λ a left. value (to a) left) ≡ wrong rest → r ≡ wrong rest
@@ -73,12 +96,11 @@ mapped-wrong to rest other e = other-wrong e
 mapped-wrong to rest (wrong left) e = ap wrong (same-rest e)
 mapped-wrong to rest short e = short-wrong e
 
-pub mapped-delimited : {A B : Type 0} (w : ℕ) (f : Format A) (to : A → B) (from : B → A) (P : B → Type 0) → Delimited w f
-    → ((a : A) → f .Valid a → P (to a)) → ((a : A) → f .Valid a → from (to a) ≡ a)
-    → ((b : B) → P b → f .Valid (from b)) → ((b : B) → P b → to (from b) ≡ b) → Delimited w (mapped f to from P)
-mapped-delimited w f to from P t good back sound forth = record {
-  lawful = mapped-lawful w f to from P (t .lawful) good back sound forth;
-  free = λ v rest ok. t .free (from v) rest (sound v ok);
+pub mapped-delimited : {A B : Type 0} (w : ℕ) (f : Format A) (to : A → B) (from : B → A) (P : B → Type 0) → Delimited w f → Inverse f to from P
+    → Delimited w (mapped f to from P)
+mapped-delimited w f to from P t i = record {
+  lawful = mapped-lawful w f to from P (t .lawful) i;
+  free = λ v rest ok. t .free (from v) rest (i .sound v ok);
   empty = ap (λ r. first r λ a rest. value (to a) rest) (t .empty);
   firm = λ text rest e. t .firm text rest (mapped-wrong to rest (f .read text) e);
 }
@@ -94,18 +116,18 @@ pub unit-alone : (w : ℕ) (of : List ℕ → ℕ) (to : ℕ → List ℕ) (lo h
 unit-alone w of to lo hi text rest e =
     unit-go (of (take w text)) rest (drop w text) (ltb (length text) w) (ltb (of (take w text)) lo) (ltb hi (of (take w text))) e
 
-pub unit-firm : (w : ℕ) (of : List ℕ → ℕ) (to : ℕ → List ℕ) (lo hi : ℕ) (text rest : List ℕ) → unit w of to lo hi .read text ≡ wrong rest → length rest < length text
+pub unit-firm : (w : ℕ) (of : List ℕ → ℕ) (to : ℕ → List ℕ) (lo hi : ℕ) → Firm (unit w of to lo hi)
 unit-firm w of to lo hi text rest e = absurd (unit-alone w of to lo hi text rest e)
 
-either-firm : {A B : Type 0} (f : Format A) (g : Format B) (text rest : List ℕ) → (f .read text ≡ wrong rest → length rest < length text) → (g .read text ≡ wrong rest → length rest < length text)
+either-firm : {A B : Type 0} (f : Format A) (g : Format B) → Firm f → Firm g → (text rest : List ℕ)
     → (r : Answer A) (q : Answer B) → f .read text ≡ r → g .read text ≡ q → orElse r q ≡ wrong rest → length rest < length text
-either-firm f g text rest h k (value a left) q x y e = value-wrong e
-either-firm f g text rest h k other (value b left) x y e = value-wrong e
-either-firm f g text rest h k other other x y e = other-wrong e
-either-firm f g text rest h k other (wrong left) x y e = k (y ∙ ap wrong (same-rest e))
-either-firm f g text rest h k other short x y e = short-wrong e
-either-firm f g text rest h k (wrong left) q x y e = h (x ∙ ap wrong (same-rest e))
-either-firm f g text rest h k short q x y e = short-wrong e
+either-firm f g h k text rest (value a left) q x y e = value-wrong e
+either-firm f g h k text rest other (value b left) x y e = value-wrong e
+either-firm f g h k text rest other other x y e = other-wrong e
+either-firm f g h k text rest other (wrong left) x y e = k text rest (y ∙ ap wrong (same-rest e))
+either-firm f g h k text rest other short x y e = short-wrong e
+either-firm f g h k text rest (wrong left) q x y e = h text rest (x ∙ ap wrong (same-rest e))
+either-firm f g h k text rest short q x y e = short-wrong e
 
 pub either-delimited : {A B : Type 0} (w : ℕ) (f : Format A) (g : Format B) → Delimited w f → Delimited w g
     → ((b : B) (rest : List ℕ) → g .Valid b → f .read (g .write b ++ rest) ≡ other) → Delimited w (either f g)
@@ -113,12 +135,37 @@ either-delimited {A = A} {B = B} w f g t s apart = record {
   lawful = either-lawful w f g (t .lawful) (s .lawful);
   free = free;
   empty = ap (λ r. orElse r (g .read [])) (t .empty);
-  firm = λ text rest e. either-firm f g text rest (t .firm text rest) (s .firm text rest) (f .read text) (g .read text) refl refl e;
+  firm = λ text rest e. either-firm f g (t .firm) (s .firm) text rest (f .read text) (g .read text) refl refl e;
 }
   where
     free : (v : A ⊎ B) (rest : List ℕ) → either f g .Valid v → either f g .Follow v rest
     free (inl a) rest ok = t .free a rest ok
     free (inr b) rest ok = (apart b rest ok, s .free b rest ok)
+
+-- a delimited format that is exact
+pub record Strict (w : ℕ) {A : Type 0} (f : Format A) : Type 0 where
+  pub delimited : Delimited w f
+  pub exact : Exact w f
+
+pub sequence-strict : {A B : Type 0} (w : ℕ) (f : Format A) (g : A → Format B) → Strict w f → ((a : A) → f .Valid a → Strict w (g a)) → Strict w (sequence f g)
+sequence-strict w f g t s = record {
+  delimited = sequence-delimited w f g (t .delimited) λ a ok. s a ok .delimited;
+  exact = sequence-exact w f g (t .exact) λ a ok. s a ok .exact;
+}
+
+pub mapped-strict : {A B : Type 0} (w : ℕ) (f : Format A) (to : A → B) (from : B → A) (P : B → Type 0) → Strict w f → Inverse f to from P
+    → Strict w (mapped f to from P)
+mapped-strict w f to from P t i = record {
+  delimited = mapped-delimited w f to from P (t .delimited) i;
+  exact = mapped-exact w f to from P (t .exact) i;
+}
+
+pub either-strict : {A B : Type 0} (w : ℕ) (f : Format A) (g : Format B) → Strict w f → Strict w g
+    → ((b : B) (rest : List ℕ) → g .Valid b → f .read (g .write b ++ rest) ≡ other) → Strict w (either f g)
+either-strict w f g t s apart = record {
+  delimited = either-delimited w f g (t .delimited) (s .delimited) apart;
+  exact = either-exact w f g (t .exact) (s .exact);
+}
 
 -- a delimited format of which every value takes n bytes
 pub record Fixed (w n : ℕ) {A : Type 0} (f : Format A) : Type 0 where

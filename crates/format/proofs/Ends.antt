@@ -13,9 +13,9 @@ use Rattle.format.specs.Format.{Answer, value, other, wrong, short, Form
 use Rattle.format.specs.Places.{Outcome, fine, refused, unfinished, outcome, reading}
 use Rattle.format.specs.Located.{Located, found, wrongAt, cut, located, locate, andThen, onFound, ended}
 use Rattle.format.proofs.Lawful.{Lawful, Says}
-use Rattle.format.proofs.Delimited.{Delimited}
-use Rattle.format.proofs.At.{sequence-at, Wronged, here, later, wronged}
-use Rattle.format.proofs.Loop.{many-on, many-done, many-bad, many-cut, many-end}
+use Rattle.format.proofs.Delimited.{Delimited, nonempty}
+use Rattle.format.proofs.At.{sequence-at, Strays, here, later, wronged}
+use Rattle.format.proofs.Loop.{Open, delimited-open, many-on, many-done, many-bad, many-cut, many-end}
 
 unfoldable pub onFine : {A B : Type 0} → (A → B) → Outcome A → Outcome B
 onFine to (fine a) = fine (to a)
@@ -50,7 +50,7 @@ end-go : {A : Type 0} (w : ℕ) (text : List ℕ) (v : A) (rest : List ℕ) → 
 end-go w text v [] h = rw (eq-eqb (length text - 0) (length text) (omega arith))
 end-go w text v (b ∷ rest) h = left-go w text v (b ∷ rest) (omega arith) h (ltb (length (b ∷ rest)) w) refl
 
-reading-go : {A : Type 0} (w : ℕ) (f : Format A) (text : List ℕ) (r : Answer A) → Says w f text r
+reading-go : {A : Type 0} (w : ℕ) (f : Format A) (text : List ℕ) (r : Answer A) → Says f text r
     → outcome text (first {A = A × Unit {0}} (first r λ a rest. second (λ u. (a, u)) rest (endRead w rest)) λ p left. value (p .0) left)
     ≡ ended w (length text) (located (length text) 0 r)
 reading-go w f text (value v rest) s = end-go w text v rest (omega (arith, ap length (s .0), length-append (f .write v) rest))
@@ -141,30 +141,28 @@ module _ {A : Type 0} (w : ℕ) (f : Format A) (d : Delimited w f) (s : List ℕ
   abbrev goes : A → ℕ → Located (A × List A)
   goes a i = onFound (λ l. (a, l)) (locate (many f) s i)
 
+  o : Open w f
+  o = delimited-open w f d
+
   more-go : (a : A) (m : Located (List A)) → onFound {B = A × List A} (λ l. (a, l)) m ≡ oneOrMore (length s) (onFound (λ l. a ∷ l) m)
   more-go a (found l i) = refl
   more-go a (wrongAt p) = refl
   more-go a cut = refl
 
-  strange-room : f .read (drop at s) ≡ other → at < length s
-  strange-room e =
-      let x = rw e at (d .lawful .says (drop at s)) in
-      omega (arith, ap length (x .is), length-append (x .here) (x .tail), x .long, d .lawful .wide, length-drop at s)
-
-  wrong-go : (p : ℕ) → locate f s at ≡ wrongAt p → Wronged w f d s at p → wrongAt p ≡ oneOrMore (length s) (locate (many f) s at)
-  wrong-go p e (here z o) =
-      let k : at < length s = strange-room o in
-      sym (ap (oneOrMore (length s)) (many-done w f d s at h (e ∙ ap wrongAt z)) ∙ rw (lt-ltb at (length s) k) (ap wrongAt (sym z)))
-  wrong-go p e (later rest z k o) = sym (ap (oneOrMore (length s)) (many-bad w f d s at p e (λ q. omega arith)))
+  wrong-go : (p : ℕ) → locate f s at ≡ wrongAt p → Strays f s at p → wrongAt p ≡ oneOrMore (length s) (locate (many f) s at)
+  wrong-go p e (here z y) =
+      let k : at < length s = omega (arith, nonempty w f d (drop at s) y, length-drop at s) in
+      sym (ap (oneOrMore (length s)) (many-done w f o s at h (e ∙ ap wrongAt z)) ∙ rw (lt-ltb at (length s) k) (ap wrongAt (sym z)))
+  wrong-go p e (later rest z k y) = sym (ap (oneOrMore (length s)) (many-bad w f o s at p e (λ q. omega arith)))
 
   cut-go : locate f s at ≡ cut → (t : Bool) → ltb at (length s) ≡ t → cut ≡ oneOrMore (length s) (locate (many f) s at)
-  cut-go e true q = sym (ap (oneOrMore (length s)) (many-cut w f d s at (ltb-true at (length s) q) e))
+  cut-go e true q = sym (ap (oneOrMore (length s)) (many-cut w f o s at (ltb-true at (length s) q) e))
   cut-go e false q =
       let k : length s ≡ at = omega (arith, ltb-false at (length s) q) in
-      sym (ap (oneOrMore (length s)) (many-end w f d s at k) ∙ rw (le-ltb at (length s) (omega arith)))
+      sym (ap (oneOrMore (length s)) (many-end w f o s at k) ∙ rw (le-ltb at (length s) (omega arith)))
 
   one-go : (x : Located A) → locate f s at ≡ x → andThen x goes ≡ oneOrMore (length s) (locate (many f) s at)
-  one-go (found a i) e = more-go a (locate (many f) s i) ∙ ap (oneOrMore (length s)) (sym (many-on w f d s at a i e))
+  one-go (found a i) e = more-go a (locate (many f) s i) ∙ ap (oneOrMore (length s)) (sym (many-on w f o s at h a i e))
   one-go (wrongAt p) e = wrong-go p e (wronged w f d s at p e)
   one-go cut e = cut-go e (ltb at (length s)) refl
 

@@ -2,6 +2,10 @@ pub mod Lawful
 pub mod Sequence
 pub mod Parts
 pub mod Many
+pub mod Reading
+pub mod Exact
+pub mod ExactParts
+pub mod ExactMany
 pub mod Unit
 pub mod Places
 pub mod Delimited

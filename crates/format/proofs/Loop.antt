@@ -1,5 +1,5 @@
 -- Zero or more of a format, read one by one: a loop only cites these.
-use Prim.Native.Nat.{ℕ, _+_, _-_, _≤_, _<_}
+use Prim.Native.Nat.{ℕ, _-_, _≤_, _<_}
 use mathlib.Core.List.{List, [], _∷_, _++_, append-assoc, append-nil}
 use mathlib.Core.Path.{_≡_, refl, sym, ap, _∙_}
 use lib.ListN.{length, drop, length-drop, drop-of-length-le}
@@ -7,11 +7,25 @@ use lib.Seq.{drop-cons}
 use native.Mathlib.Omega.{arith}
 use Rattle.format.specs.Format.{Answer, value, other, wrong, short, Format, second, maybe, many}
 use Rattle.format.specs.Located.{Located, found, wrongAt, cut, located, locate, onFound}
+use Rattle.format.proofs.Lawful.{Lawful}
 use Rattle.format.proofs.Many.{step}
-use Rattle.format.proofs.Delimited.{Delimited, solid}
-use Rattle.format.proofs.At.{delimited-got, wronged, here, later, Wronged, cut-reads}
+use Rattle.format.proofs.Delimited.{Firm, Delimited, solid}
+use Rattle.format.proofs.At.{Strays, here, later, firm-strays, Got, got, cut-reads}
 
-module _ {A : Type 0} (w : ℕ) (f : Format A) (d : Delimited w f) (s : List ℕ) (i : ℕ) where
+-- what a delimited format has, but for what may follow it, as an item with an optional coordinate
+pub record Open (w : ℕ) {A : Type 0} (f : Format A) : Type 0 where
+  pub lawful : Lawful w f
+  pub solid : (v : A) → f .Valid v → 1 ≤ length (f .write v)
+  pub empty : f .read [] ≡ short
+  pub firm : Firm f
+
+pub delimited-open : {A : Type 0} (w : ℕ) (f : Format A) → Delimited w f → Open w f
+delimited-open w f d = record { lawful = d .lawful; solid = solid w f d; empty = d .empty; firm = d .firm }
+
+module _ {A : Type 0} (w : ℕ) (f : Format A) (d : Open w f) (s : List ℕ) (i : ℕ) where
+  pub strays : (p : ℕ) → locate f s i ≡ wrongAt p → Strays f s i p
+  strays = firm-strays f (d .firm) s i
+
   abbrev all : Located (List A)
   all = locate (many f) s i
 
@@ -20,7 +34,7 @@ module _ {A : Type 0} (w : ℕ) (f : Format A) (d : Delimited w f) (s : List ℕ
 
   steps : (r : Answer A) → f .read (drop i s) ≡ r → all ≡ located (length s) i (again r)
   unfolding locate
-  steps r e = ap (located (length s) i) (step w f (d .lawful) (solid w f d) (drop i s) ∙ ap again e)
+  steps r e = ap (located (length s) i) (step w f (d .lawful) (d .solid) (drop i s) ∙ ap again e)
 
   one-go : (a : A) (rest : List ℕ) (r : Answer (List A)) → located (length s) i (second (λ l. a ∷ l) rest r) ≡ onFound (λ l. a ∷ l) (located (length s) (length s - length rest) r)
   one-go a rest (value l left) = refl
@@ -29,19 +43,19 @@ module _ {A : Type 0} (w : ℕ) (f : Format A) (d : Delimited w f) (s : List ℕ
   one-go a rest short = refl
 
   -- one more
-  pub many-on : (a : A) (next : ℕ) → locate f s i ≡ found a next → all ≡ onFound (λ l. a ∷ l) (locate (many f) s next)
+  pub many-on : i ≤ length s → (a : A) (next : ℕ) → locate f s i ≡ found a next → all ≡ onFound (λ l. a ∷ l) (locate (many f) s next)
   unfolding locate
-  many-on a next e =
-      let g = delimited-got w f d s i a next e in
+  many-on h a next e =
+      let g = got w f (d .lawful) s i h a next e in
       let k : length s - length (drop next s) ≡ next = omega (arith, length-drop next s, g .room) in
       steps (value a (drop next s)) (g .reads) ∙ one-go a (drop next s) (many f .read (drop next s))
       ∙ ap (λ j. onFound (λ l. a ∷ l) (located (length s) j (many f .read (drop next s)))) k
 
   -- no more
   pub many-done : i ≤ length s → locate f s i ≡ wrongAt i → all ≡ found [] i
-  many-done h e = go (wronged w f d s i i e)
+  many-done h e = go (strays i e)
     where
-      go : Wronged w f d s i i → all ≡ found [] i
+      go : Strays f s i i → all ≡ found [] i
       go (here z o) = steps other o ∙ ap (found []) (omega (arith, length-drop i s))
       go (later rest z k o) = absurd (omega arith)
 
@@ -52,9 +66,9 @@ module _ {A : Type 0} (w : ℕ) (f : Format A) (d : Delimited w f) (s : List ℕ
       steps short (ap (f .read) z ∙ d .empty) ∙ ap (λ t. located (length s) i (maybe {A = A} [] t short λ a rest. second (λ l. a ∷ l) rest (many f .read rest))) z ∙ ap (found []) (omega arith)
 
   pub many-bad : (p : ℕ) → locate f s i ≡ wrongAt p → (p ≡ i → ⊥) → all ≡ wrongAt p
-  many-bad p e n = go (wronged w f d s i p e)
+  many-bad p e n = go (strays p e)
     where
-      go : Wronged w f d s i p → all ≡ wrongAt p
+      go : Strays f s i p → all ≡ wrongAt p
       go (here z o) = absurd (n z)
       go (later rest z k o) = steps (wrong rest) o ∙ ap wrongAt (sym z)
 
@@ -67,12 +81,12 @@ module _ {A : Type 0} (w : ℕ) (f : Format A) (d : Delimited w f) (s : List ℕ
 abbrev pub behind : {A : Type 0} → List A → Located (List A) → Located (List A)
 behind done = onFound (λ l. done ++ l)
 
-pub behind-nil : {A : Type 0} (r : Located (List A)) → r ≡ behind [] r
+behind-nil : {A : Type 0} (r : Located (List A)) → r ≡ behind [] r
 behind-nil (found l i) = refl
 behind-nil (wrongAt p) = refl
 behind-nil cut = refl
 
-pub behind-one : {A : Type 0} (done : List A) (a : A) (r : Located (List A)) → behind done (onFound (λ l. a ∷ l) r) ≡ behind (done ++ (a ∷ [])) r
+behind-one : {A : Type 0} (done : List A) (a : A) (r : Located (List A)) → behind done (onFound (λ l. a ∷ l) r) ≡ behind (done ++ (a ∷ [])) r
 behind-one done a (found l i) = ap (λ m. found m i) (sym (append-assoc done (a ∷ []) l))
 behind-one done a (wrongAt p) = refl
 behind-one done a cut = refl
@@ -85,24 +99,45 @@ pub record Walk {A : Type 0} (f : Format A) (s : List ℕ) (at i : ℕ) (done : 
 pub walk-start : {A : Type 0} (f : Format A) (s : List ℕ) (at : ℕ) → at ≤ length s → Walk f s at at []
 walk-start f s at h = record { inside = h; leads = behind-nil (locate (many f) s at) }
 
-module _ {A : Type 0} (w : ℕ) (f : Format A) (d : Delimited w f) (s : List ℕ) (at i : ℕ) (done : List A) (k : Walk f s at i done) where
-  pub walk-on : (a : A) (next : ℕ) → locate f s i ≡ found a next → Walk f s at next (done ++ (a ∷ []))
-  walk-on a next e = record {
-    inside = delimited-got w f d s i a next e .room;
-    leads = k .leads ∙ ap (behind done) (many-on w f d s i a next e) ∙ behind-one done a (locate (many f) s next);
+-- one law for each way on or out
+module _ {A : Type 0} (w : ℕ) (f : Format A) (d : Open w f) (s : List ℕ) (at i : ℕ) (done : List A) (k : Walk f s at i done) where
+  pub open-got : (a : A) (next : ℕ) → locate f s i ≡ found a next → Got f s i a next
+  open-got = got w f (d .lawful) s i (k .inside)
+
+  pub open-on : (a : A) (next : ℕ) → locate f s i ≡ found a next → Walk f s at next (done ++ (a ∷ []))
+  open-on a next e = record {
+    inside = open-got a next e .room;
+    leads = k .leads ∙ ap (behind done) (many-on w f d s i (k .inside) a next e) ∙ behind-one done a (locate (many f) s next);
   }
 
   last : locate (many f) s i ≡ found [] i → locate (many f) s at ≡ found done i
   last e = k .leads ∙ ap (behind done) e ∙ ap (λ l. found l i) (append-nil done)
 
+  pub open-stop : locate f s i ≡ wrongAt i → locate (many f) s at ≡ found done i
+  open-stop e = last (many-done w f d s i (k .inside) e)
+
+  pub open-end : length s ≤ i → locate (many f) s at ≡ found done i
+  open-end h = last (many-end w f d s i (let x = k .inside in omega arith))
+
+  pub open-bad : (p : ℕ) → locate f s i ≡ wrongAt p → (p ≡ i → ⊥) → locate (many f) s at ≡ wrongAt p
+  open-bad p e n = k .leads ∙ ap (behind done) (many-bad w f d s i p e n)
+
+  pub open-cut : i < length s → locate f s i ≡ cut → locate (many f) s at ≡ cut
+  open-cut h e = k .leads ∙ ap (behind done) (many-cut w f d s i h e)
+
+-- the same of a delimited format
+module _ {A : Type 0} (w : ℕ) (f : Format A) (d : Delimited w f) (s : List ℕ) (at i : ℕ) (done : List A) (k : Walk f s at i done) where
+  pub walk-on : (a : A) (next : ℕ) → locate f s i ≡ found a next → Walk f s at next (done ++ (a ∷ []))
+  walk-on = open-on w f (delimited-open w f d) s at i done k
+
   pub walk-stop : locate f s i ≡ wrongAt i → locate (many f) s at ≡ found done i
-  walk-stop e = last (many-done w f d s i (k .inside) e)
+  walk-stop = open-stop w f (delimited-open w f d) s at i done k
 
   pub walk-end : length s ≤ i → locate (many f) s at ≡ found done i
-  walk-end h = last (many-end w f d s i (let x = k .inside in omega arith))
+  walk-end = open-end w f (delimited-open w f d) s at i done k
 
   pub walk-bad : (p : ℕ) → locate f s i ≡ wrongAt p → (p ≡ i → ⊥) → locate (many f) s at ≡ wrongAt p
-  walk-bad p e n = k .leads ∙ ap (behind done) (many-bad w f d s i p e n)
+  walk-bad = open-bad w f (delimited-open w f d) s at i done k
 
   pub walk-cut : i < length s → locate f s i ≡ cut → locate (many f) s at ≡ cut
-  walk-cut h e = k .leads ∙ ap (behind done) (many-cut w f d s i h e)
+  walk-cut = open-cut w f (delimited-open w f d) s at i done k

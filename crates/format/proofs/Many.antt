@@ -1,22 +1,22 @@
 -- Zero or more of a lawful format that writes something for each value.
-use Prim.Native.Nat.{ℕ, zero, suc, _+_, _-_, _≤_, _<_}
+use Prim.Native.Nat.{ℕ, zero, suc, _≤_, _<_}
 use mathlib.Core.List.{List, [], _∷_, _++_, append-assoc}
 use mathlib.Core.Path.{_≡_, refl, ap, _∙_}
 use lib.ListN.{length, length-append}
 use native.Mathlib.Omega.{arith}
 use Rattle.format.specs.Format.{Answer, value, other, wrong, short, Format, second, maybe, run, many, Absent}
-use Rattle.format.specs.Places.{Whole, Begins}
-use Rattle.format.proofs.Lawful.{Says, Lawful, whole-append, first-bad, first-cut, second-says, absent-keeps}
+use Rattle.format.specs.Places.{Whole}
+use Rattle.format.proofs.Lawful.{Says, Lawful, whole-append, second-says}
 
 module _ {A : Type 0} (w : ℕ) (f : Format A) (l : Lawful w f) (solid : (a : A) → f .Valid a → 1 ≤ length (f .write a)) where
   abbrev h : Format (List A)
   h = many f
 
   -- what is left after an item is less
-  shrinks : (text : List ℕ) (a : A) (rest : List ℕ) → Says w f text (value a rest) → length rest < length text
+  pub shrinks : (text : List ℕ) (a : A) (rest : List ℕ) → Says f text (value a rest) → length rest < length text
   shrinks text a rest s = omega (arith, ap length (s .0), length-append (f .write a) rest, solid a (s .1))
 
-  enough-go : (j k : ℕ) (text : List ℕ) (r : Answer A) → Says w f text r
+  enough-go : (j k : ℕ) (text : List ℕ) (r : Answer A) → Says f text r
       → ((rest : List ℕ) → length rest < length text → run (f .read) j rest ≡ run (f .read) k rest)
       → _≡_ {A = Answer (List A)} (maybe [] text r λ a rest. second (λ l. a ∷ l) rest (run (f .read) j rest))
       (maybe [] text r λ a rest. second (λ l. a ∷ l) rest (run (f .read) k rest))
@@ -35,7 +35,7 @@ module _ {A : Type 0} (w : ℕ) (f : Format A) (l : Lawful w f) (solid : (a : A)
   abbrev again : List ℕ → Answer A → Answer (List A)
   again text r = maybe [] text r λ a rest. second (λ l. a ∷ l) rest (h .read rest)
 
-  step-go : (text : List ℕ) (r : Answer A) → Says w f text r
+  step-go : (text : List ℕ) (r : Answer A) → Says f text r
       → _≡_ {A = Answer (List A)} (maybe [] text r λ a rest. second (λ l. a ∷ l) rest (run (f .read) (length text) rest)) (again text r)
   step-go text (value a rest) s =
       ap (second (λ l. a ∷ l) rest) (enough (length text) (suc (length rest)) rest (shrinks text a rest s) (omega arith))
@@ -47,22 +47,17 @@ module _ {A : Type 0} (w : ℕ) (f : Format A) (l : Lawful w f) (solid : (a : A)
   pub step : (text : List ℕ) → h .read text ≡ again text (f .read text)
   step text = step-go text (f .read text) (l .says text)
 
-  extends : (a : A) → f .Valid a → Begins h (f .write a)
-  extends a ok = record { says = a ∷ []; valid = (ok, tt); more = []; is = refl }
-
-  says-go : (text : List ℕ) (r : Answer A) → f .read text ≡ r → Says w f text r
-      → ((rest : List ℕ) → length rest < length text → Says w h rest (h .read rest)) → Says w h text (again text r)
+  says-go : (text : List ℕ) (r : Answer A) → f .read text ≡ r → Says f text r
+      → ((rest : List ℕ) → length rest < length text → Says h rest (h .read rest)) → Says h text (again text r)
   says-go text (value a rest) e s ih =
-      let z = second-says w f h h l a (s .1) (λ b. a ∷ b) (λ b. refl) (λ b v. (s .1, v)) (λ b rest p q. (p, q))
-      (λ y p. step (f .write a ++ y) ∙ ap (again (f .write a ++ y)) (l .reads a y (s .1) p))
-      (record { says = []; valid = tt; more = []; is = refl }) rest (s .2) (h .read rest) (ih rest (shrinks text a rest s)) in
+      let z = second-says f h h a (λ b. a ∷ b) (λ b. refl) (λ b v. (s .1, v)) (λ b rest p q. (p, q)) rest (s .2) (h .read rest) (ih rest (shrinks text a rest s)) in
       rw (← s .0) at z
   says-go text other e s ih = (refl, tt, rw e tt)
-  says-go text (wrong rest) e s ih = first-bad w f h extends (λ x y q. step x ∙ ap (again x) q) text rest s
+  says-go text (wrong rest) e s ih = tt
   says-go [] short e s ih = (refl, tt, rw e tt)
-  says-go (b ∷ text) short e s ih = first-cut w f h extends (b ∷ text) s
+  says-go (b ∷ text) short e s ih = tt
 
-  says-upto : (n : ℕ) (text : List ℕ) → length text < n → Says w h text (h .read text)
+  says-upto : (n : ℕ) (text : List ℕ) → length text < n → Says h text (h .read text)
   says-upto zero text p = absurd (omega arith)
   says-upto (suc n) text p =
       rw (step text) (says-go text (f .read text) refl (l .says text) λ rest z. says-upto n rest (omega arith))
@@ -74,18 +69,9 @@ module _ {A : Type 0} (w : ℕ) (f : Format A) (l : Lawful w f) (solid : (a : A)
   absent-reads [] short p = refl
   absent-reads (b ∷ rest) short p = absurd p
 
-  even-all : (v : List A) → h .Valid v → Whole w (h .write v)
-  even-all [] ok = (0, omega arith)
-  even-all (a ∷ v) ok = whole-append w (f .write a) (h .write v) (l .even a (ok .0)) (even-all v (ok .1))
-
-  keeps-all : (v : List A) (x t u : List ℕ) → h .Valid v → w ≤ length x → h .Follow v (x ++ t) → h .Follow v (x ++ u)
-  keeps-all [] x t u ok k p = absent-keeps w f l x t u k p
-  keeps-all (a ∷ v) x t u ok k p =
-      let y = h .write v in (
-        keeps-all v x t u (ok .1) k (p .0),
-        rw (append-assoc y x u) at
-            (l .keeps a (y ++ x) t u (ok .0) (omega (arith, k, length-append y x)) (rw (← append-assoc y x t) at (p .1))),
-      )
+  whole-all : (v : List A) → h .Valid v → Whole w (h .write v)
+  whole-all [] ok = (0, omega arith)
+  whole-all (a ∷ v) ok = whole-append w (f .write a) (h .write v) (l .whole a (ok .0)) (whole-all v (ok .1))
 
   reads-all : (v : List A) (rest : List ℕ) → h .Valid v → h .Follow v rest → h .read (h .write v ++ rest) ≡ value v rest
   reads-all [] rest ok p = step rest ∙ absent-reads rest (f .read rest) p
@@ -97,11 +83,4 @@ module _ {A : Type 0} (w : ℕ) (f : Format A) (l : Lawful w f) (solid : (a : A)
       ∙ ap (second (λ l. a ∷ l) y) (reads-all v rest (ok .1) (p .0))
 
   pub many-lawful : Lawful w (many f)
-  many-lawful = record {
-    wide = l .wide;
-    some = record { says = []; valid = tt; more = []; is = refl };
-    even = even-all;
-    keeps = keeps-all;
-    reads = reads-all;
-    says = λ text. says-upto (suc (length text)) text (omega arith);
-  }
+  many-lawful = record { whole = whole-all; reads = reads-all; says = λ text. says-upto (suc (length text)) text (omega arith) }

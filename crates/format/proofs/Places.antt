@@ -1,4 +1,4 @@
--- The law of places, once for every lawful format.
+-- The law of places, once for every exact format.
 use Prim.Native.Nat.{ℕ, suc, _+_, _-_, _*_, _≤_, _<_}
 use mathlib.Core.List.{List, [], _++_, append-assoc, append-nil}
 use mathlib.Core.Path.{_≡_, refl, sym, ap, _∙_}
@@ -12,9 +12,10 @@ use native.Mathlib.Nat.{suc-mul, mul-one, mul-le-mul-right, lt-of-mul-lt-mul-rig
 use borrow.Author.Tests.{ltb-true, ltb-false}
 use Rattle.format.specs.Format.{Answer, value, other, wrong, short, Format, sequence, end}
 use Rattle.format.specs.Places.{whole, Begins, Formed, Outcome, fine, refused, unfinished, outcome, reading, Refused, Unfinished, Means, ByBytes}
-use Rattle.format.proofs.Lawful.{Says, Lawful}
-use Rattle.format.proofs.Sequence.{sequence-lawful}
-use Rattle.format.proofs.Parts.{mapped-lawful, end-lawful}
+use Rattle.format.proofs.Lawful.{Says}
+use Rattle.format.proofs.Reading.{whole-inverse, whole-written, reads-formed}
+use Rattle.format.proofs.Exact.{Exact, Fails}
+use Rattle.format.proofs.ExactParts.{sequence-exact, mapped-exact, end-exact}
 
 wrong-value : {A : Type 0} {X : Type 0} {v : A} {r s : List ℕ} → wrong r ≡ value v s → X
 wrong-value e = absurd (let z : _≡_ {A = ℕ} 0 1 = cc in omega arith)
@@ -31,10 +32,9 @@ same-value e = ap fine cc
 omega-length : (text x y : List ℕ) → text ≡ x ++ y → length text ≡ length x + length y
 omega-length text x y e = ap length e ∙ length-append x y
 
-pub whole-lawful : {A : Type 0} (w : ℕ) (f : Format A) → Lawful w f → Lawful w (whole w f)
-whole-lawful w f l =
-    mapped-lawful w (sequence f (λ a. end w)) (λ p. p .0) (λ a. (a, tt)) (f .Valid) (sequence-lawful w f (λ a. end w) l (λ a ok. end-lawful w (l .wide)))
-    (λ p ok. ok .0) (λ p ok. refl) (λ a ok. (ok, tt)) (λ a ok. refl)
+whole-exact : {A : Type 0} (w : ℕ) (f : Format A) → Exact w f → Exact w (whole w f)
+whole-exact w f l =
+    mapped-exact w (sequence f λ a. end w) (λ p. p .0) (λ a. (a, tt)) (f .Valid) (sequence-exact w f (λ a. end w) l λ a ok. end-exact w (l .wide)) (whole-inverse w f)
 
 -- less of a beginning is one too
 pub begins-less : {A : Type 0} (f : Format A) (text : List ℕ) (j i : ℕ) → j ≤ i → Begins f (take i text) → Begins f (take j text)
@@ -56,39 +56,36 @@ apart w n m p q a b k =
     let y : suc n * w ≤ m * w = mul-le-mul-right w (omega arith) in
     omega (arith, y, suc-mul n w)
 
-module _ {A : Type 0} (w : ℕ) (f : Format A) (l : Lawful w f) (ready : (v : A) → f .Valid v → f .Follow v []) where
+module _ {A : Type 0} (w : ℕ) (f : Format A) (l : Exact w f) (ready : (v : A) → f .Valid v → f .Follow v []) where
   abbrev h : Format A
   h = whole w f
 
-  lh : Lawful w h
-  lh = whole-lawful w f l
+  lh : Exact w h
+  lh = whole-exact w f l
 
   begins-f : (x : List ℕ) → Begins h x → Begins f x
   begins-f x b = record { says = b .says; valid = b .valid; more = b .more; is = sym (append-nil (f .write (b .says))) ∙ b .is }
 
-  reads-formed : (v : A) → f .Valid v → h .read (f .write v) ≡ value v []
-  reads-formed v ok =
-      ap (h .read) (sym (append-nil (f .write v)) ∙ sym (append-nil (f .write v ++ []))) ∙ lh .reads v [] ok (refl, ready v ok)
+  reads : (v : A) → f .Valid v → h .read (f .write v) ≡ value v []
+  reads = reads-formed w f (l .lawful) ready
 
   none : (x : List ℕ) → ((t : List ℕ) (v : A) → h .read (x ++ t) ≡ value v [] → ⊥) → Begins f x → ⊥
-  none x n b = n (b .more) (b .says) (ap (h .read) (sym (b .is)) ∙ reads-formed (b .says) (b .valid))
+  none x n b = n (b .more) (b .says) (ap (h .read) (sym (b .is)) ∙ reads (b .says) (b .valid))
 
   unformed : (text : List ℕ) → h .read text ≡ short → Formed f text → ⊥
-  unformed text e k = short-value (sym e ∙ ap (h .read) (k .is) ∙ reads-formed (k .says) (k .valid))
+  unformed text e k = short-value (sym e ∙ ap (h .read) (k .is) ∙ reads (k .says) (k .valid))
 
-  means-go : (text : List ℕ) (r : Answer A) → h .read text ≡ r → Says w h text r → Means w f text (outcome text r)
-  means-go text (value v rest) e s =
-      let z : rest ≡ [] = s .2 .0 in
-      (s .1, s .0 ∙ ap (λ k. (f .write v ++ []) ++ k) z ∙ append-nil (f .write v ++ []) ∙ append-nil (f .write v))
-  means-go text other e s = record {
+  means-go : (text : List ℕ) (r : Answer A) → h .read text ≡ r → Says h text r → Fails w h text r → Means w f text (outcome text r)
+  means-go text (value v rest) e k s = whole-written w f (l .lawful) text v rest k
+  means-go text other e k s = record {
     inside = omega (arith, ap length (s .is), length-append (s .here) (s .tail), s .long);
     unit = 0;
-    even = omega arith;
+    multiple = omega arith;
     begins = begins-f [] (lh .some);
     never = λ b. none (s .here) (λ t v q. other-value (sym (s .stays t) ∙ q))
         (rw (ap (take (0 + w)) (s .is) ∙ take-at (s .here) (s .tail) (0 + w) (omega (arith, s .long))) at b);
   }
-  means-go text (wrong rest) e s =
+  means-go text (wrong rest) e k s =
       let n = length (s .front) in
       let p : length text - length rest ≡ n = omega (arith, ap length (s .splits), length-append (s .front) rest) in
       let z : take n text ≡ s .front = ap (take n) (s .splits) ∙ take-append-seam (s .front) rest in
@@ -98,19 +95,19 @@ module _ {A : Type 0} (w : ℕ) (f : Format A) (l : Lawful w f) (ready : (v : A)
       rw p
       (record {
         inside = omega (arith, ap length y, length-append (s .front ++ s .here) (s .tail), length-append (s .front) (s .here), s .long);
-        unit = s .even .0;
-        even = s .even .1;
+        unit = s .whole .0;
+        multiple = s .whole .1;
         begins = rw z (begins-f (s .front) (s .begins));
         never = λ b. none (s .front ++ s .here)
             (λ t v q. wrong-value (sym (s .stays t) ∙ ap (h .read) (sym (append-assoc (s .front) (s .here) t)) ∙ q)) (rw x at b);
       })
-  means-go text short e s =
+  means-go text short e k s =
       let n = length (s .front) in
-      let m : n ≡ s .even .0 * w = s .even .1 in
+      let m : n ≡ s .whole .0 * w = s .whole .1 in
       let z : take n text ≡ s .front = ap (take n) (s .is) ∙ take-append-seam (s .front) (s .bit) in
       let y = omega-length text (s .front) (s .bit) (s .is) in
       record {
-        units = s .even .0;
+        units = s .whole .0;
         inside = omega (arith, y, m);
         less = omega (arith, y, m, s .less);
         begins = rw (← m, z) (begins-f (s .front) (s .begins));
@@ -119,14 +116,14 @@ module _ {A : Type 0} (w : ℕ) (f : Format A) (l : Lawful w f) (ready : (v : A)
 
   -- the outcome means what it says
   pub places : (text : List ℕ) → Means w f text (reading w f text)
-  places text = means-go text (h .read text) refl (lh .says text)
+  places text = means-go text (h .read text) refl (lh .lawful .says text) (lh .fails text)
 
   below : (text : List ℕ) (p q : ℕ) → Refused w f text p → Refused w f text q → p < q → ⊥
-  below text p q a b k = a .never (begins-less f text (p + w) q (apart w (a .unit) (b .unit) p q (a .even) (b .even) k) (b .begins))
+  below text p q a b k = a .never (begins-less f text (p + w) q (apart w (a .unit) (b .unit) p q (a .multiple) (b .multiple) k) (b .begins))
 
   uncut : (text : List ℕ) (p : ℕ) → Refused w f text p → Unfinished w f text → ⊥
   uncut text p a b =
-      a .never (begins-less f text (p + w) (b .units * w) (apart w (a .unit) (b .units) p (b .units * w) (a .even) refl (omega (arith, a .inside, b .less))) (b .begins))
+      a .never (begins-less f text (p + w) (b .units * w) (apart w (a .unit) (b .units) p (b .units * w) (a .multiple) refl (omega (arith, a .inside, b .less))) (b .begins))
 
   same-place : (text : List ℕ) (p q : ℕ) → Refused w f text p → Refused w f text q → (s t : Bool) → ltb p q ≡ s → ltb q p ≡ t → p ≡ q
   same-place text p q a b true t x y = absurd (below text p q a b (ltb-true p q x))
@@ -136,7 +133,7 @@ module _ {A : Type 0} (w : ℕ) (f : Format A) (l : Lawful w f) (ready : (v : A)
   -- no text has two outcomes
   pub one-outcome : (text : List ℕ) (o k : Outcome A) → Means w f text o → Means w f text k → o ≡ k
   one-outcome text (fine v) (fine u) a b =
-      same-value (sym (reads-formed v (a .0)) ∙ ap (h .read) (sym (a .1) ∙ b .1) ∙ reads-formed u (b .0))
+      same-value (sym (reads v (a .0)) ∙ ap (h .read) (sym (a .1) ∙ b .1) ∙ reads u (b .0))
   one-outcome text (fine v) (refused p) a b = absurd (b .never (formed-begins f text (p + w) v (a .0) (a .1)))
   one-outcome text (fine v) unfinished a b = absurd (b .unformed (record { says = v; valid = a .0; is = a .1 }))
   one-outcome text (refused p) (fine v) a b = absurd (a .never (formed-begins f text (p + w) v (b .0) (b .1)))
@@ -151,7 +148,7 @@ module _ {A : Type 0} (w : ℕ) (f : Format A) (l : Lawful w f) (ready : (v : A)
   exactly text o = (λ e. rw e at (places text), λ m. one-outcome text (reading w f text) o (places text) m)
 
 -- where a unit is a byte, the law in the paper's words
-module _ {A : Type 0} (f : Format A) (l : Lawful 1 f) (ready : (v : A) → f .Valid v → f .Follow v []) where
+module _ {A : Type 0} (f : Format A) (l : Exact 1 f) (ready : (v : A) → f .Valid v → f .Follow v []) where
   inside-go : (text : List ℕ) (p : ℕ) → Begins f (take p text) → (Begins f (take (p + 1) text) → ⊥) → (t : Bool) → ltb p (length text) ≡ t → p + 1 ≤ length text
   inside-go text p b n true e = omega (arith, ltb-true p (length text) e)
   inside-go text p b n false e =
@@ -166,7 +163,7 @@ module _ {A : Type 0} (f : Format A) (l : Lawful 1 f) (ready : (v : A) → f .Va
         (record {
           inside = inside-go text p (m .0) (m .1) (ltb p (length text)) refl;
           unit = p;
-          even = sym (mul-one p);
+          multiple = sym (mul-one p);
           begins = m .0;
           never = m .1;
         }),

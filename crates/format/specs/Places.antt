@@ -48,7 +48,7 @@ reading w f text = outcome text (whole w f .read text)
 pub record Refused {A : Type 0} (w : ℕ) (f : Format A) (text : List ℕ) (p : ℕ) : Type 0 where
   pub inside : p + w ≤ length text
   pub unit : ℕ
-  pub even : p ≡ unit * w
+  pub multiple : p ≡ unit * w
   pub begins : Begins f (take p text)
   pub never : Begins f (take (p + w) text) → ⊥
 

@@ -1,13 +1,9 @@
 -- What the entries answer, from what reading, measuring and writing promise.
-use Prim.Native.Nat.{ℕ, _<_}
+use Prim.Native.Nat.{ℕ}
 use mathlib.Core.Path.{_≡_, refl, sym, ap, _∙_}
-use mathlib.Core.Bool.{Bool, true, false, not}
 use mathlib.Core.List.{List}
 use native.Mathlib.Omega.{arith}
-use lib.Dec.{eqb}
 use lib.IntN.{ℤ}
-use lib.ListN.{length}
-use Rattle.format.specs.Format.{choose}
 use Rattle.format.specs.Numeral.{Range}
 use Rattle.charset.specs.declared.Charset.{Charset}
 use Rattle.charset.specs.Tokens.{lastCode, lastWriting}
@@ -24,26 +20,13 @@ use Rattle.sign.proofs.Transcribing.{lies}
 use Rattle.bounds.specs.declared.groups.Groups.{Groups}
 use Rattle.bounds.specs.declared.measure.Measured.{Measured}
 use Rattle.bounds.specs.declared.centre.Doubled.{Doubled}
-use Rattle.bounds.specs.Boxes.{groupsOf}
-use Rattle.bounds.specs.Sizes.{unsizedSymbol, measured}
+use Rattle.bounds.specs.Sizes.{measured}
 use Rattle.bounds.specs.Centre.{doubledOf}
 use Rattle.bounds.specs.Inner.{measuredAs}
-use Rattle.bounds.proofs.Measuring.{all-weaker}
+use Rattle.bounds.proofs.Measuring.{all-weaker, measured-counted}
 use Rattle.moving.specs.Moves.{movedSign, shiftedText, toMiddle, restated, centredBy, centredSign, centredText}
 use Rattle.geometry.specs.Geometry.{boundsAs, boundsOf}
 use Rattle.moving.specs.Inner.{Coded}
-
--- no refusal of sizes has the number 0
-counted-go : (g : Groups) (f n p : ℕ) (a b c : Bool) → choose a (refusal 7 0) (choose b (refusal 9 0) (choose c (refusal 8 f) (done g))) ≡ refusal n p → 0 < n
-counted-go g f n p true b c e = let z : 7 ≡ n = cc in omega arith
-counted-go g f n p false true c e = let z : 9 ≡ n = cc in omega arith
-counted-go g f n p false false true e = let z : 8 ≡ n = cc in omega arith
-counted-go g f n p false false false e = absurd (let z : _≡_ {A = ℕ} 0 1 = cc in omega arith)
-
-counted : (sizes : List ℕ) (l : List Spatial) (n p : ℕ) → measured sizes l ≡ refusal n p → 0 < n
-unfolding measured
-counted sizes l n p e =
-    counted-go (groupsOf sizes l) (unsizedSymbol sizes l) n p (not (eqb (length sizes) 125184)) (eqb (length l) 0) (not (eqb (unsizedSymbol sizes l) 0)) e
 
 -- what measuring came to, by the number that it answered
 module _ (sizes : List ℕ) (l : List Spatial) (m : Measured) (is : m ≡ measuredAs (measured sizes l)) where
@@ -57,7 +40,7 @@ module _ (sizes : List ℕ) (l : List Spatial) (m : Measured) (is : m ≡ measur
   was-measured-go : (r : Result Groups) → measured sizes l ≡ r → m ≡ measuredAs r → m .number ≡ 0 → r ≡ done (m .groups)
   was-measured-go (refusal n p) q e z =
       let k : m .number ≡ n = ap (λ k. k .number) e in
-      absurd (omega (arith, counted sizes l n p q))
+      absurd (omega (arith, measured-counted sizes l n p q))
   was-measured-go (done g) q e z = λ i. done (sym (ap (λ k. k .groups) e) i)
 
   was-measured : m .number ≡ 0 → measured sizes l ≡ done (m .groups)

@@ -1,3 +1,4 @@
 pub mod Sign
+pub mod ExactSign
 pub mod SignSize
 pub mod SignLaws

@@ -1,14 +1,15 @@
 -- The sign is lawful in both character sets, with one predicate for what can be said.
-use Prim.Native.Nat.{ℕ, _+_, _≤_}
+use Prim.Native.Nat.{ℕ, _+_}
 use mathlib.Core.List.{List, [], _∷_, _++_, append-assoc, map}
 use mathlib.Core.Path.{_≡_, refl, sym, ap, subst, _∙_}
 use mathlib.Core.Option.{Option, none, some}
 use native.Mathlib.Omega.{arith}
-use Rattle.format.specs.Format.{Answer, other, Format, All, first, second, sequence, optional, many, Absent, FollowAll}
+use Rattle.format.specs.Format.{Answer, other, Format, All, second, optional, many, Absent, FollowAll}
 use Rattle.format.specs.Numeral.{Range}
 use Rattle.format.proofs.Lawful.{Lawful}
 use Rattle.format.proofs.Sequence.{sequence-lawful}
-use Rattle.format.proofs.Parts.{mapped-lawful, optional-lawful}
+pub use Rattle.format.proofs.Sequence.{sequence-other}
+use Rattle.format.proofs.Parts.{Inverse, mapped-lawful, optional-lawful}
 use Rattle.format.proofs.Many.{many-lawful}
 use Rattle.format.proofs.Delimited.{Delimited, Fixed, sequence-fixed, solid}
 use Rattle.charset.specs.declared.Charset.{Charset}
@@ -25,9 +26,6 @@ all-follow w f t (a ∷ v) rest ok p = (all-follow w f t v rest (ok .1) p, t .fr
 pub absent-other : {A : Type 0} (text : List ℕ) {r : Answer A} → r ≡ other → Absent text r
 absent-other text e = rw e tt
 
-pub sequence-other : {A B : Type 0} (f : Format A) (g : A → Format B) (text : List ℕ) → f .read text ≡ other → sequence f g .read text ≡ other
-sequence-other f g text e = ap (λ r. first r λ a rest. second (λ b. (a, b)) rest (g a .read rest)) e
-
 module _ (t : Tokens) (l : LawfulTokens t) where
   pub point-fixed : Fixed (t .unit) (t .numberSize + t .secondSize) (point t)
   point-fixed = sequence-fixed (t .unit) (t .numberSize) (t .secondSize) (t .number) (λ x. t .second) (l .number) λ x ok. l .second
@@ -37,9 +35,6 @@ module _ (t : Tokens) (l : LawfulTokens t) where
 
   pub symbol-fixed : Fixed (t .unit) (t .symbolSize) (prefixSymbol t)
   symbol-fixed = l .symbolOrNull lastLocation (omega arith) (omega arith)
-
-  pub marker-fixed : (lo hi : ℕ) → lo ≤ hi → hi ≤ 4 → Fixed (t .unit) (t .markerSize) (t .marker lo hi)
-  marker-fixed = l .marker
 
   pub head-fixed : Fixed (t .unit) (t .markerSize + (t .numberSize + t .secondSize)) (head t)
   head-fixed = placed-fixed (t .markerSize) (t .marker 1 4) (l .marker 1 4 (omega arith) (omega arith))
@@ -148,13 +143,21 @@ module _ (set : Charset) where
       subst (λ (P : Parts → Type 0). P (ofMeaning m)) (sym (alike set))
       (prefix-sound (m .prefix) (ok .prefix), ((ok .marker, ok .maximum), symbols-sound (m .symbols) (ok .symbols)))
 
+  pub sign-inverse : Inverse (parts (tokens set)) toMeaning ofMeaning Valid
+  sign-inverse = record {
+    good = λ v ok.
+        let k = to-fsw v ok in
+        record { prefix = prefix-good (v .0) (k .0); marker = k .1 .0 .0; maximum = k .1 .0 .1; symbols = symbols-good (v .1 .1) (k .1 .1) };
+    back = λ v ok.
+        let k = to-fsw v ok in
+        λ i. (prefix-back (v .0) (k .0) i, ((v .1 .0 .0, (v .1 .0 .1 .0, v .1 .0 .1 .1)), spatial-back (v .1 .1) i));
+    sound = sound;
+    forth = λ m ok i. record { prefix = prefix-forth (m .prefix) i; marker = m .marker; x = m .x; y = m .y; symbols = spatial-forth (m .symbols) i };
+  }
+
   pub sign-lawful : Lawful (tokens set .unit) (sign set)
   sign-lawful =
-      mapped-lawful (tokens set .unit) (parts (tokens set)) toMeaning ofMeaning Valid (parts-lawful (tokens set) (lawful set))
-      (λ v ok. let k = to-fsw v ok in record { prefix = prefix-good (v .0) (k .0); marker = k .1 .0 .0; maximum = k .1 .0 .1; symbols = symbols-good (v .1 .1) (k .1 .1) })
-      (λ v ok. let k = to-fsw v ok in λ i. (prefix-back (v .0) (k .0) i, ((v .1 .0 .0, (v .1 .0 .1 .0, v .1 .0 .1 .1)), spatial-back (v .1 .1) i)))
-      sound
-      (λ m ok i. record { prefix = prefix-forth (m .prefix) i; marker = m .marker; x = m .x; y = m .y; symbols = spatial-forth (m .symbols) i })
+      mapped-lawful (tokens set .unit) (parts (tokens set)) toMeaning ofMeaning Valid (parts-lawful (tokens set) (lawful set)) sign-inverse
 
   pub sign-ready : (m : Meaning) → Valid m → sign set .Follow m []
   sign-ready m ok = parts-ready (tokens set) (lawful set) (ofMeaning m) (sound m ok)

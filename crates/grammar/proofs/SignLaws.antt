@@ -3,7 +3,8 @@ use Prim.Native.Nat.{ℕ}
 use mathlib.Core.List.{List}
 use mathlib.Core.Path.{_≡_, refl, sym, ap, _∙_}
 use mathlib.Core.Logic.{_↔_}
-use Rattle.format.specs.Places.{Outcome, fine, Means}
+use Rattle.format.specs.Places.{fine}
+use Rattle.format.proofs.Reading.{fine-exactly}
 use Rattle.format.proofs.Places.{exactly, by-bytes}
 use Rattle.charset.specs.declared.Charset.{Charset}
 use Rattle.charset.specs.declared.Charset.the-variants.{Fsw}
@@ -11,12 +12,13 @@ use Rattle.charset.specs.Tokens.{tokens}
 use Rattle.grammar.specs.Sign.{Meaning, Valid, sign, signText}
 use Rattle.grammar.specs.SignLaws.{readSign, SignLaws, FswPlaces}
 use Rattle.grammar.proofs.Sign.{sign-lawful, sign-ready}
+use Rattle.grammar.proofs.ExactSign.{sign-exact}
 
-sign-exactly : (set : Charset) (text : List ℕ) (o : Outcome Meaning) → (readSign set text ≡ o) ↔ Means (tokens set .unit) (sign set) text o
-sign-exactly set = exactly (tokens set .unit) (sign set) (sign-lawful set) (sign-ready set)
+sign-fine : (set : Charset) (text : List ℕ) (m : Meaning) → (readSign set text ≡ fine m) ↔ (Valid m × (text ≡ signText set m))
+sign-fine set = fine-exactly (tokens set .unit) (sign set) (sign-lawful set) (sign-ready set)
 
 reads : (set : Charset) (m : Meaning) → Valid m → readSign set (signText set m) ≡ fine m
-reads set m ok = sign-exactly set (signText set m) (fine m) .1 (ok, refl)
+reads set m ok = sign-fine set (signText set m) m .1 (ok, refl)
 
 same-fine : {m k : Meaning} → fine m ≡ fine k → m ≡ k
 same-fine e = cc
@@ -24,10 +26,10 @@ same-fine e = cc
 pub sign-laws : (set : Charset) → SignLaws set
 sign-laws set = record {
   reads = reads set;
-  writes = λ text m e. sign-exactly set text (fine m) .0 e;
+  writes = λ text m e. sign-fine set text m .0 e;
   one = λ m k a b e. same-fine (sym (reads set m a) ∙ ap (readSign set) e ∙ reads set k b);
-  places = sign-exactly set;
+  places = exactly (tokens set .unit) (sign set) (sign-exact set) (sign-ready set);
 }
 
 pub fsw-places : FswPlaces
-fsw-places = by-bytes (sign Fsw) (sign-lawful Fsw) (sign-ready Fsw)
+fsw-places = by-bytes (sign Fsw) (sign-exact Fsw) (sign-ready Fsw)

@@ -2,7 +2,7 @@
 use Prim.Native.Nat.{ℕ, zero, suc, _+_, _*_, _≤_}
 use mathlib.Core.List.{List, [], _∷_, _++_, map}
 use mathlib.Core.Path.{_≡_, refl, ap, _∙_}
-use lib.ListN.{length, replicate, length-append}
+use lib.ListN.{length, replicate, length-append, length-map}
 use native.Mathlib.Omega.{arith}
 use native.Mathlib.Nat.{suc-mul}
 use Rattle.format.specs.Format.{Format, All, many, optional}
@@ -12,7 +12,7 @@ use Rattle.charset.specs.declared.Charset.{Charset}
 use Rattle.charset.specs.declared.Charset.the-variants.{Fsw, Swu}
 use Rattle.charset.specs.Tokens.{Tokens, tokens, lastLocation, lastCode}
 use Rattle.charset.proofs.Sets.{lawful}
-use Rattle.grammar.specs.Sign.{Spatial, Meaning, ValidSymbol, Valid, prefixSymbol, prefix, head, spatial, ofSpatial, ofPrefix, signText}
+use Rattle.grammar.specs.Sign.{Meaning, ValidSymbol, Valid, prefixSymbol, prefix, head, spatial, ofSpatial, ofPrefix, signText}
 use Rattle.grammar.specs.SignLaws.{headSize, spatialSize, prefixSize, signSize, longest, Longest}
 use Rattle.grammar.proofs.Sign.{symbol-fixed, head-fixed, spatial-fixed, sound}
 
@@ -22,10 +22,6 @@ many-size w n f x (a ∷ l) ok =
     length-append (f .write a) (many f .write l)
     ∙ (λ i. x .size a (ok .0) i + many-size w n f x l (ok .1) i)
     ∙ (let e = suc-mul (length l) n in omega arith)
-
-map-length : (l : List Spatial) → length (map ofSpatial l) ≡ length l
-map-length [] = refl
-map-length (s ∷ l) = ap suc (map-length l)
 
 module _ (set : Charset) where
   abbrev t : Tokens
@@ -58,7 +54,7 @@ module _ (set : Charset) where
       let b : length h ≡ headSize set = head-fixed t (lawful set) .size (m .marker, (m .x, m .y)) (k .1 .0) in
       let c : length s ≡ length (m .symbols) * spatialSize set =
       many-size (t .unit) (spatialSize set) (spatial t) (spatial-fixed t (lawful set)) (map ofSpatial (m .symbols)) (k .1 .1)
-      ∙ ap (λ n. n * spatialSize set) (map-length (m .symbols)) in
+      ∙ ap (λ n. n * spatialSize set) (length-map (m .symbols) ofSpatial) in
       omega arith
 
 all-replicate : {A : Type 0} (P : A → Type 0) (a : A) → P a → (n : ℕ) → All P (replicate n a)

@@ -2,3 +2,4 @@ pub mod Counting
 pub mod Ends
 pub mod Starts
 pub mod Laws
+pub mod Counts

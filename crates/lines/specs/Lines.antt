@@ -24,8 +24,11 @@ ended [] = true
 ended (b ∷ bytes) = eqb (getD (b ∷ bytes) (length bytes) 0) 10
 
 -- at most 65,535 lines
+abbrev pub isFew : ℕ → Bool
+isFew n = leb n 65535
+
 abbrev pub fewLines : List ℕ → Bool
-fewLines bytes = leb (length (lines bytes)) 65535
+fewLines bytes = isFew (length (lines bytes))
 
 -- lines as bytes, each with its byte 10
 unfoldable pub bytesOf : List (List ℕ) → List ℕ

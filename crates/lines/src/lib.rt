@@ -1,3 +1,4 @@
-// Lines of a slice of bytes: counting them and finding one.
+// Lines of bytes, where they lie, and the check of a dictionary.
 
+pub mod checked;
 pub mod walk;

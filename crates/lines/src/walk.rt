@@ -1,6 +1,6 @@
 // A walk over the bytes of lines, from one byte 10 to the next.
 ghost use mathlib.Core.Path.{_≡_};
-ghost use Prim.Native.Nat.{_+_, _≤_};
+ghost use Prim.Native.Nat.{_+_, _≤_, min};
 ghost use lib.ListN.{length, take, drop};
 ghost use Rattle.lines.specs.Lines.{lines, ended, firstLine, lineOf, lineStart, placeIn};
 
@@ -54,6 +54,27 @@ pub fn count(d: &[u8]) -> usize
     n
 }
 
+// Where among 128 bytes a line ends: the offset of their first byte 10, or 128. The loop runs to its end, so that the compiler
+// compares many bytes at a time.
+fn end_in_block(d: &[u8], at: usize) -> u8
+    requires { ⌜ at + 128 ≤ length (now d) ⌝ }
+    ensures { λ r. ⌜ r ≡ min 128 (length (firstLine (drop at (now (d .entry))))) ⌝ }
+{
+    let mut first: u8 = 128;
+    let mut j: usize = 0;
+    while j < 128 {
+        let mut ten: u8 = 128;
+        if d[at + j] == 10 {
+            ten = j as u8;
+        }
+        if ten < first {
+            first = ten;
+        }
+        j += 1;
+    }
+    first
+}
+
 // Where the line that starts at a ends: at its byte 10, or at the end of the bytes.
 pub fn line_end(d: &[u8], a: usize) -> usize
     requires { ⌜ a ≤ length (now d) ⌝ }
@@ -61,10 +82,18 @@ pub fn line_end(d: &[u8], a: usize) -> usize
 {
     let mut e = a;
     while e < d.len() {
-        if d[e] == 10 {
-            return e;
+        if 128 <= d.len() - e {
+            let passed = end_in_block(d, e) as usize;
+            e += passed;
+            if passed < 128 {
+                return e;
+            }
+        } else {
+            if d[e] == 10 {
+                return e;
+            }
+            e += 1;
         }
-        e += 1;
     }
     e
 }

@@ -1,23 +1,41 @@
--- Entries and the flags beside them, one for each place of the list.
-use Prim.Native.Nat.{ℕ}
-use mathlib.Core.List.{List, [], _∷_, map}
-use mathlib.Core.Bool.{Bool}
-use lib.Dec.{ltb}
+-- Flags by entry: flag e is that of entry e, and flag 0 is unused.
+use Prim.Native.Nat.{ℕ, zero, suc}
+use mathlib.Core.List.{List, [], _∷_}
+use mathlib.Core.Bool.{Bool, not}
+use lib.Dec.{eqb}
+use lib.ListN.{getD, set}
 use Rattle.format.specs.Format.{choose}
 
--- a flag is set unless it is 0
-abbrev pub isSet : ℕ → Bool
-isSet flag = ltb 0 flag
+-- What a flag says: the entry is not listed; it is listed, and nothing is known or it does not meet the query; it meets the query;
+-- its line is no sign.
+abbrev pub unlistedFlag : ℕ
+unlistedFlag = 0
 
--- the entries whose flags are set, in order
-unfoldable pub flagged : List ℕ → List ℕ → List ℕ
-flagged [] flags = []
-flagged (e ∷ entries) [] = []
-flagged (e ∷ entries) (flag ∷ flags) = choose (isSet flag) (e ∷ flagged entries flags) (flagged entries flags)
+abbrev pub listedFlag : ℕ
+listedFlag = 1
 
--- the flags that a test of entries sets: 1, or 0
-abbrev pub flagOf : Bool → ℕ
-flagOf t = choose t 1 0
+abbrev pub metFlag : ℕ
+metFlag = 2
 
-abbrev pub flagsOf : (ℕ → Bool) → List ℕ → List ℕ
-flagsOf test entries = map (λ e. flagOf (test e)) entries
+abbrev pub noSignFlag : ℕ
+noSignFlag = 3
+
+abbrev pub flagOf : List ℕ → ℕ → ℕ
+flagOf flags e = getD flags e 0
+
+abbrev pub isMet : List ℕ → ℕ → Bool
+isMet flags e = eqb (flagOf flags e) metFlag
+
+abbrev pub isSign : List ℕ → ℕ → Bool
+isSign flags e = not (eqb (flagOf flags e) noSignFlag)
+
+-- entries marked as listed, one after the other
+unfoldable pub marked : List ℕ → List ℕ → List ℕ
+marked [] flags = flags
+marked (e ∷ entries) flags = marked entries (set flags e listedFlag)
+
+-- the flags of entries 1 to n judged one after the other: that of a listed entry becomes what the judge says
+unfoldable pub judgedTo : (ℕ → ℕ) → ℕ → List ℕ → List ℕ
+judgedTo judge zero flags = flags
+judgedTo judge (suc n) flags =
+    choose (eqb (flagOf (judgedTo judge n flags) (suc n)) unlistedFlag) (judgedTo judge n flags) (set (judgedTo judge n flags) (suc n) (judge (suc n)))

@@ -1,7 +1,9 @@
 pub mod Tests
 pub mod Loops
+pub mod Rows
 pub mod Deciding
 pub mod Rightness
 pub mod Numbers
-pub mod Bridge
-pub mod Holding
+pub mod Words
+pub mod Laying
+pub mod WordsLaws

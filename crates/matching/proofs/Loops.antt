@@ -9,16 +9,12 @@ use native.Mathlib.Omega.{arith}
 use native.Mathlib.Nat.{eq-or-lt-of-le}
 use native.Mathlib.Numerals.{add-one}
 use borrow.Author.Tests.{eq-eqb, ne-eqb}
-use Rattle.grammar.specs.Sign.{Spatial}
 use Rattle.reader.specs.Signs.{padded, zeros}
 use Rattle.writer.specs.Arrays.{upto}
 use Rattle.reader.proofs.Filling.{padded-none, put-more}
 use Rattle.writer.proofs.Upto.{upto-length, map-upto}
 use Rattle.sign.proofs.Transcribing.{upto-at}
-use Rattle.queryitem.specs.declared.reading.Numbers.{Numbers}
-use Rattle.matching.specs.declared.Verdict.{Verdict}
-use Rattle.matching.specs.Meets.{beginsBy, firstFrom, unmet, met, missing, judged, answered}
-use Rattle.matching.specs.Inner.{servesNumbers, judgedNumbers}
+use Rattle.matching.specs.Meets.{beginsBy, firstFrom, unmet, met, missing, judged}
 
 -- a test answers b at every place before i
 abbrev pub Passed : (ℕ → Bool) → Bool → ℕ → Type 0
@@ -130,35 +126,20 @@ module _ {A : Type 0} (witness : A → ℕ) (g : ℕ → A) (n : ℕ) where
       passed = passed-more (λ i. missing (witness (g i))) false j (s .passed) (ne-eqb (witness (g j)) 0 (λ y. z (e ∙ y)));
     }
 
-    judged-not : j < n → witness (g j) ≡ 0 → unmet (j + 1) ≡ judged (map witness (upto g n))
+    pub judged-not : j < n → witness (g j) ≡ 0 → unmet (j + 1) ≡ judged (map witness (upto g n))
     unfolding judged
     judged-not h z =
         let e = first-found missing (λ i. witness (g i)) n j (s .passed) h (eq-eqb (witness (g j)) 0 z) in
         rw (map-upto witness g n, ← e, ne-eqb (j + 1) 0 (λ y. omega arith))
 
-    judged-all : n ≤ j → met (map witness (upto g n)) ≡ judged (map witness (upto g n))
+    pub judged-all : n ≤ j → met (map witness (upto g n)) ≡ judged (map witness (upto g n))
     unfolding judged
     judged-all h =
         let e = first-none missing (λ i. witness (g i)) n j (s .passed) h in
         rw (map-upto witness g n, ← e)
 
-    held-all : n ≤ j → out ≡ padded 32 (map witness (upto g n))
+    pub held-all : n ≤ j → out ≡ padded 32 (map witness (upto g n))
     held-all h =
         let k = s .most in
         let e : j ≡ n = omega arith in
         s .held ∙ ap (λ i. padded 32 (map witness (upto g i))) e
-
-abbrev pub witnessOf : ℕ → List Spatial → Numbers → ℕ
-witnessOf variance symbols item = firstFrom 1 (servesNumbers variance item) symbols
-
-module _ (variance : ℕ) (g : ℕ → Numbers) (n : ℕ) (symbols : List Spatial) where
-  module _ (j : ℕ) (out : List ℕ) (s : Judging (witnessOf variance symbols) g n j out) where
-    pub judge-not : j < n → (w : ℕ) → w ≡ witnessOf variance symbols (g j) → w ≡ 0 → (r : Verdict) → r ≡ answered (unmet (j + 1)) → r ≡ answered (judgedNumbers variance (upto g n) symbols)
-    unfolding judgedNumbers
-    judge-not h w e z r q = q ∙ ap answered (judged-not (witnessOf variance symbols) g n j out s h (sym e ∙ z))
-
-    pub judge-all : n ≤ j → record { number = 0; place = 0; met = true; unmet = 0; witnesses = out } ≡ answered (judgedNumbers variance (upto g n) symbols)
-    unfolding judgedNumbers
-    judge-all h =
-        (λ i. record { number = 0; place = 0; met = true; unmet = 0; witnesses = held-all (witnessOf variance symbols) g n j out s h i })
-        ∙ ap answered (judged-all (witnessOf variance symbols) g n j out s h)

@@ -1,21 +1,16 @@
--- The tests over the five numbers of an item are those over the item, where the item is valid.
+-- The three words of an item say of a code what the item says, where the item is valid.
 use Prim.Native.Nat.{ℕ, zero, suc, _+_, _-_, _*_, _/_, _%_, _≤_, _<_}
 use mathlib.Core.Path.{_≡_, refl, sym, ap, _∙_}
-use mathlib.Core.List.{List, [], _∷_, map}
-use mathlib.Core.Bool.{Bool, _&&_, _||_}
-use mathlib.Core.Logic.{_⊎_, inl, inr}
+use mathlib.Core.Logic.{_⊎_, inl, inr, _↔_}
 use mathlib.Core.Option.{Option, none, some}
-use lib.Dec.{eqb}
-use lib.ListN.{length}
 use native.Mathlib.Omega.{arith}
 use native.Mathlib.Nat.{mod-lt, div-add-mod'}
-use borrow.Author.Tests.{ne-eqb, lt-ltb}
-use Rattle.format.specs.Format.{All, Any, choose}
-use Rattle.grammar.specs.Sign.{Spatial, Number}
-use Rattle.querygrammar.specs.Query.{Item, keyItem, rangeItem, Prefix, free, present, begins, Sought, itemsOf, kindOf}
-use Rattle.queryitem.specs.Numbers.{lowest, highest, turnOf, remainder as turn, xOf, yOf, numbersOf, bare}
-use Rattle.matching.specs.Meets.{baseOf, fillOf, rotationOf, Agrees, Satisfies, satisfies, beginsBy, prefixHolds, within, near, serves, firstFrom}
-use Rattle.matching.specs.Inner.{Base, ValidItem, ValidSought, fitsNumbers, fitsItem, servesNumbers, prefixNumbers}
+use Rattle.format.specs.Format.{Any}
+use Rattle.querygrammar.specs.Query.{Item, keyItem, rangeItem, Base, ValidItem}
+use Rattle.queryitem.specs.Numbers.{lowest, highest, turnOf, remainder as turn}
+use Rattle.matching.specs.Meets.{baseOf, fillOf, rotationOf, Agrees, Satisfies, satisfies}
+use Rattle.matching.specs.Inner.{fitsNumbers}
+use Rattle.matching.specs.WordsLaws.{Lies}
 use Rattle.matching.proofs.Deciding.{Decides, alike, both, either, equal, at-most, satisfies-decides}
 
 -- A CODE AND ITS PARTS
@@ -53,9 +48,8 @@ remainder code b f r e h = omega arith
 
 -- KEYS AND RANGES
 
--- what the numbers ask of a code
 abbrev Asks : Item → ℕ → Type 0
-Asks item code = (lowest item ≤ code) × ((code ≤ highest item) × ((turn item ≡ 16) ⊎ (code % 16 ≡ turn item)))
+Asks item code = Lies (lowest item) (highest item) (turn item) code
 
 numbers-decide : (item : Item) (code : ℕ) → Decides (fitsNumbers (lowest item) (highest item) (turn item) code) (Asks item code)
 unfolding fitsNumbers
@@ -119,42 +113,13 @@ lowest-some (keyItem base none rotation) = omega arith
 lowest-some (keyItem base (some fill) rotation) = omega arith
 lowest-some (rangeItem from to) = omega arith
 
+pub item-means : (item : Item) (code : ℕ) → ValidItem item → Asks item code ↔ Satisfies item code
+item-means item code v = (
+  λ a. let z : code ≡ 0 → ⊥ = λ e. omega (arith, lowest-some item, a .0) in asks-to code _ _ _ (parts code z) item v z a,
+  λ s. asks-from code _ _ _ (parts code (s .0)) item v s,
+)
+
 pub fits-item : (item : Item) (code : ℕ) → ValidItem item → fitsNumbers (lowest item) (highest item) (turn item) code ≡ satisfies item code
 fits-item item code v =
-    alike (numbers-decide item code) (satisfies-decides item code)
-    (λ a. let z : code ≡ 0 → ⊥ = λ e. omega (arith, lowest-some item, a .0) in asks-to code _ _ _ (parts code z) item v z a)
-    (λ s. asks-from code _ _ _ (parts code (s .0)) item v s)
-
--- A SIGNBOX ITEM, AND THE PREFIX CONDITION
-
-near-item : (variance : ℕ) (o : Option (ℕ × ℕ)) (symbol : Spatial) → Any (λ p. Number (p .0) × Number (p .1)) o
-    → (eqb (xOf o) 0 || (within variance (xOf o) (symbol .x) && within variance (yOf o) (symbol .y))) ≡ near variance o symbol
-near-item variance none symbol ok = refl
-near-item variance (some p) symbol ok = rw (ne-eqb (p .0) 0 (λ e. omega (arith, ok .0 .0))) refl
-
-serves-item : (variance : ℕ) (sought : Sought) (symbol : Spatial) → ValidSought sought → servesNumbers variance (numbersOf sought) symbol ≡ serves variance sought symbol
-unfolding servesNumbers serves
-serves-item variance sought symbol v =
-    λ i. fits-item (sought .item) (symbol .code) (v .0) i && near-item variance (sought .coordinate) symbol (v .1) i
-
-first-alike : {A : Type 0} (f g : A → Bool) → ((a : A) → f a ≡ g a) → (k : ℕ) (l : List A) → firstFrom k f l ≡ firstFrom k g l
-first-alike f g e k [] = refl
-first-alike f g e k (a ∷ l) = λ i. choose (e a i) k (first-alike f g e (k + 1) l i)
-
-pub witnesses-alike : (variance : ℕ) (symbols : List Spatial) (l : List Sought) → All ValidSought l
-    → map (λ n. firstFrom 1 (servesNumbers variance n) symbols) (map numbersOf l) ≡ map (λ sought. firstFrom 1 (serves variance sought) symbols) l
-witnesses-alike variance symbols [] v = refl
-witnesses-alike variance symbols (s ∷ l) v =
-    λ i. first-alike (servesNumbers variance (numbersOf s)) (serves variance s) (λ symbol. serves-item variance s symbol (v .0)) 1 symbols i ∷ witnesses-alike variance symbols l (v .1) i
-
-begins-alike : (l : List Item) (codes : List ℕ) → All ValidItem l → beginsBy fitsItem (map bare l) codes ≡ beginsBy satisfies l codes
-begins-alike [] codes v = refl
-begins-alike (item ∷ l) [] v = refl
-begins-alike (item ∷ l) (code ∷ codes) v = λ i. fits-item item code (v .0) i && begins-alike l codes (v .1) i
-
-pub prefix-alike : (p : Prefix) (codes : List ℕ) → All ValidItem (itemsOf p) → prefixNumbers (kindOf p) (map bare (itemsOf p)) codes ≡ prefixHolds p codes
-unfolding prefixNumbers prefixHolds
-prefix-alike free codes v = refl
-prefix-alike present [] v = refl
-prefix-alike present (code ∷ codes) v = lt-ltb 0 (suc (length codes)) (omega arith)
-prefix-alike (begins items) codes v = begins-alike items codes v
+    let m = item-means item code v in
+    alike (numbers-decide item code) (satisfies-decides item code) (m .0) (m .1)

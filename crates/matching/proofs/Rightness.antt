@@ -87,7 +87,7 @@ module _ (q : Query) (m : Meaning) where
   before-conditions n p f zero h = p
   before-conditions n p f (suc k) h = f k (omega arith)
 
-  right-unmet : (n : ℕ) → (Condition q m n → ⊥) → ((k : ℕ) → k < n → Condition q m k) → Right q m (unmet n)
+  pub right-unmet : (n : ℕ) → (Condition q m n → ⊥) → ((k : ℕ) → k < n → Condition q m k) → Right q m (unmet n)
   right-unmet n u f = record {
     exactly = ((λ e. clash e refl), (λ s. absurd (u (s n))));
     witnesses = λ ws e. absurd (let z : _≡_ {A = ℕ} 0 1 = cc in omega arith);

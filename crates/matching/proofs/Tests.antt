@@ -1,15 +1,15 @@
--- The tests over the numbers of an item: one law for each return.
-use Prim.Native.Nat.{ℕ, _+_, _%_, _≤_, _<_}
-use mathlib.Core.Path.{_≡_, sym, _∙_}
+-- The tests over the words of a row: one law for each way on or out.
+use Prim.Native.Nat.{ℕ, zero, suc, _+_, _-_, _*_, _%_, _≤_, _<_}
+use mathlib.Core.Path.{_≡_, refl, sym, ap, _∙_}
 use mathlib.Core.List.{List}
-use mathlib.Core.Bool.{Bool, true, false, not}
-use lib.Dec.{leb, ltb, eqb}
-use lib.ListN.{length}
+use mathlib.Core.Bool.{Bool, true, false, not, _||_}
+use lib.Dec.{leb, eqb}
+use native.Mathlib.Omega.{arith}
 use borrow.Author.Tests.{le-leb, lt-leb, eq-eqb, ne-eqb, not-true, not-false}
 use Rattle.grammar.specs.Sign.{Spatial}
-use Rattle.queryitem.specs.declared.reading.Numbers.{Numbers}
-use Rattle.matching.specs.Meets.{within, beginsBy}
-use Rattle.matching.specs.Inner.{fitsNumbers, fitsItem, servesNumbers, prefixNumbers}
+use Rattle.queryitem.specs.Words.{wordCount}
+use Rattle.matching.specs.Meets.{within}
+use Rattle.matching.specs.Inner.{word, fitsNumbers, fitsOne, fitsRow, fitsAt, servesAt}
 
 module _ (lo hi turn code : ℕ) where
   pub fits-below : code < lo → false ≡ fitsNumbers lo hi turn code
@@ -35,34 +35,67 @@ module _ (variance a b : ℕ) where
   pub near-above : a ≤ b + variance → leb b (a + variance) ≡ within variance a b
   near-above h = rw (le-leb a (b + variance) h)
 
-module _ (variance : ℕ) (n : Numbers) (s : Spatial) (t : Bool) (e : t ≡ fitsItem n (s .code)) where
-  pub serves-unfit : not t ≡ true → false ≡ servesNumbers variance n s
-  unfolding servesNumbers
-  serves-unfit h = rw (sym e ∙ not-true t h)
+-- ALTERNATIVES ONE BY ONE
+
+pub record Fitting (words : List ℕ) (at n code i left : ℕ) : Type 0 where
+  pub inside : i + 3 * left ≤ wordCount
+  pub same : fitsRow words at n code ≡ fitsRow words i left code
+
+module _ (words : List ℕ) (code : ℕ) where
+  step : (i left : ℕ) → 0 < left → fitsRow words i left code ≡ fitsOne words i code || fitsRow words (i + 3) (left - 1) code
+  unfolding fitsRow
+  step i zero h = absurd (omega arith)
+  step i (suc n) h =
+      let e : suc n - 1 ≡ n = omega arith in
+      rw e
+
+  module _ (at n i left : ℕ) (v : Fitting words at n code i left) where
+    pub fitting-hit : 0 < left → (t : Bool) → t ≡ fitsOne words i code → t ≡ true → true ≡ fitsRow words at n code
+    fitting-hit h t e z = sym (v .same ∙ step i left h ∙ ap (λ u. u || fitsRow words (i + 3) (left - 1) code) (sym e ∙ z))
+
+    pub fitting-on : 0 < left → (t : Bool) → t ≡ fitsOne words i code → t ≡ false → Fitting words at n code (i + 3) (left - 1)
+    fitting-on h t e z = record {
+      inside = let k = v .inside in omega arith;
+      same = v .same ∙ step i left h ∙ ap (λ u. u || fitsRow words (i + 3) (left - 1) code) (sym e ∙ z);
+    }
+
+    pub fitting-none : left ≤ 0 → false ≡ fitsRow words at n code
+    unfolding fitsRow
+    fitting-none h =
+        let e : left ≡ 0 = omega arith in
+        sym (v .same ∙ ap (λ k. fitsRow words i k code) e)
+
+-- A ROW AND A CODE
+
+pub or-false : (t : Bool) → t || false ≡ t
+or-false true = refl
+or-false false = refl
+
+pub fits-one : (words : List ℕ) (at code : ℕ) (t : Bool) → word words (at + 2) ≡ 1 → t ≡ fitsOne words (at + 3) code → t ≡ fitsAt words at code
+unfolding fitsAt fitsRow
+fits-one words at code t n e = e ∙ sym (or-false (fitsOne words (at + 3) code)) ∙ ap (λ n. fitsRow words (at + 3) n code) (sym n)
+
+pub fits-more : (words : List ℕ) (at code : ℕ) (t : Bool) → t ≡ fitsRow words (at + 3) (word words (at + 2)) code → t ≡ fitsAt words at code
+unfolding fitsAt
+fits-more words at code t e = e
+
+-- A ROW AND A SYMBOL
+
+module _ (words : List ℕ) (at variance : ℕ) (s : Spatial) (t : Bool) (e : t ≡ fitsAt words at (s .code)) where
+  pub row-unfit : not t ≡ true → false ≡ servesAt words at variance s
+  unfolding servesAt
+  row-unfit h = rw (sym e ∙ not-true t h)
 
   module _ (h : not t ≡ false) where
-    pub serves-bare : n .x ≡ 0 → true ≡ servesNumbers variance n s
-    unfolding servesNumbers
-    serves-bare z = rw (sym e ∙ not-false t h, eq-eqb (n .x) 0 z)
+    pub row-bare : word words at ≡ 0 → true ≡ servesAt words at variance s
+    unfolding servesAt
+    row-bare z = rw (sym e ∙ not-false t h, eq-eqb (word words at) 0 z)
 
-    module _ (z : n .x ≡ 0 → ⊥) (u : Bool) (d : u ≡ within variance (n .x) (s .x)) where
-      pub serves-far : not u ≡ true → false ≡ servesNumbers variance n s
-      unfolding servesNumbers
-      serves-far k = rw (sym e ∙ not-false t h, ne-eqb (n .x) 0 z, sym d ∙ not-true u k)
+    module _ (z : word words at ≡ 0 → ⊥) (u : Bool) (d : u ≡ within variance (word words at) (s .x)) where
+      pub row-far : not u ≡ true → false ≡ servesAt words at variance s
+      unfolding servesAt
+      row-far k = rw (sym e ∙ not-false t h, ne-eqb (word words at) 0 z, sym d ∙ not-true u k)
 
-      pub serves-near : not u ≡ false → (r : Bool) → r ≡ within variance (n .y) (s .y) → r ≡ servesNumbers variance n s
-      unfolding servesNumbers
-      serves-near k r q = rw (sym e ∙ not-false t h, ne-eqb (n .x) 0 z, sym d ∙ not-false u k) q
-
-module _ (kind : ℕ) (items : List Numbers) (codes : List ℕ) where
-  pub prefix-free : kind ≡ 0 → true ≡ prefixNumbers kind items codes
-  unfolding prefixNumbers
-  prefix-free e = rw (eq-eqb kind 0 e)
-
-  pub prefix-present : (n : ℕ) → (kind ≡ 0 → ⊥) → kind ≡ 1 → length codes ≡ n → ltb 0 n ≡ prefixNumbers kind items codes
-  unfolding prefixNumbers
-  prefix-present n f e c = rw (ne-eqb kind 0 f, eq-eqb kind 1 e, c)
-
-  pub prefix-begins : (kind ≡ 0 → ⊥) → (kind ≡ 1 → ⊥) → (r : Bool) → r ≡ beginsBy fitsItem items codes → r ≡ prefixNumbers kind items codes
-  unfolding prefixNumbers
-  prefix-begins f g r e = rw (ne-eqb kind 0 f, ne-eqb kind 1 g) e
+      pub row-near : not u ≡ false → (r : Bool) → r ≡ within variance (word words (at + 1)) (s .y) → r ≡ servesAt words at variance s
+      unfolding servesAt
+      row-near k r q = rw (sym e ∙ not-false t h, ne-eqb (word words at) 0 z, sym d ∙ not-false u k) q

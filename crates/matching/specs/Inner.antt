@@ -1,98 +1,79 @@
--- A query and a sign that lie in lent arrays, and what the functions that judge them answer.
-use Prim.Native.Nat.{ℕ, _%_, _≤_}
+-- A query that lies in words, a sign that lies in arrays, and what the functions that judge them answer.
+use Prim.Native.Nat.{ℕ, zero, suc, _+_, _*_, _%_, _≤_, _<_}
 use mathlib.Core.Path.{_≡_}
 use mathlib.Core.List.{List, map}
-use mathlib.Core.Bool.{Bool, true, _&&_, _||_}
+use mathlib.Core.Bool.{Bool, false, _&&_, _||_}
 use lib.Dec.{leb, ltb, eqb}
-use lib.ListN.{length}
-use Rattle.format.specs.Format.{All, Any, choose}
-use Rattle.format.specs.Numeral.{Range}
-use Rattle.charset.specs.Tokens.{lastPunctuation}
-use Rattle.grammar.specs.Sign.{Spatial, Meaning, Number}
-use Rattle.reader.specs.Signs.{padded}
-use Rattle.reader.specs.Inner.{HoldsSymbols}
-use Rattle.writer.specs.Arrays.{at}
-use Rattle.querygrammar.specs.Query.{Item, keyItem, rangeItem, Sought, Query, itemsOf, kindOf}
-use Rattle.queryitem.specs.declared.reading.Numbers.{Numbers}
-use Rattle.queryitem.specs.Numbers.{numbersOf, bare}
-use Rattle.matching.specs.declared.Verdict.{Verdict}
-use Rattle.matching.specs.Meets.{beginsBy, within, firstFrom, Judgement, judged, verdictOf, answered}
+use lib.ListN.{length, getD}
+use Rattle.format.specs.Format.{choose}
+use Rattle.grammar.specs.Sign.{Spatial}
+use Rattle.writer.specs.Arrays.{upto}
+use Rattle.querygrammar.specs.Query.{present, kindOf}
+use Rattle.queryitem.specs.Words.{wordCount}
+use Rattle.matching.specs.Meets.{beginsBy, within, firstFrom, Judgement, unmet, judged}
 
--- WHAT THE ARRAYS HOLD
+abbrev pub word : List ℕ → ℕ → ℕ
+word words i = getD words i 0
 
--- what holds of every query that was read
-abbrev pub Base : ℕ → Type 0
-Base = Range 0x100 lastPunctuation
-
-abbrev pub ValidItem : Item → Type 0
-ValidItem (keyItem base fill rotation) = Base base × (Any (λ f. f ≤ 5) fill × Any (λ r. r ≤ 15) rotation)
-ValidItem (rangeItem from to) = Base from × Base to
-
-abbrev pub ValidSought : Sought → Type 0
-ValidSought s = ValidItem (s .item) × Any (λ p. Number (p .0) × Number (p .1)) (s .coordinate)
-
-pub record ValidQuery (q : Query) : Type 0 where
-  pub prefix : All ValidItem (itemsOf (q .prefix))
-  pub items : All ValidSought (q .items)
-
--- three arrays that hold the codes of items
-pub record HoldsItems {A : Type 0} (numbers : A → Numbers) (l : List A) (n : ℕ) (lo hi turn : List ℕ) : Type 0 where
-  pub count : n ≡ length l
-  pub most : n ≤ 32
-  pub lows : lo ≡ padded 32 (map (λ a. numbers a .lo) l)
-  pub highs : hi ≡ padded 32 (map (λ a. numbers a .hi) l)
-  pub turns : turn ≡ padded 32 (map (λ a. numbers a .turn) l)
-
-pub record HoldsQuery (q : Query) (kind m : ℕ) (plo phi pturn : List ℕ) (n : ℕ) (lo hi turn qx qy : List ℕ) (variance : ℕ) : Type 0 where
-  pub valid : ValidQuery q
-  pub sort : kind ≡ kindOf (q .prefix)
-  pub prefix : HoldsItems bare (itemsOf (q .prefix)) m plo phi pturn
-  pub items : HoldsItems numbersOf (q .items) n lo hi turn
-  pub xs : qx ≡ padded 32 (map (λ s. numbersOf s .x) (q .items))
-  pub ys : qy ≡ padded 32 (map (λ s. numbersOf s .y) (q .items))
-  pub distance : variance ≡ q .variance
-
-pub record HoldsSign (s : Meaning) (p k : ℕ) (array codes xs ys : List ℕ) : Type 0 where
-  pub prefix-count : p ≡ length (s .prefix)
-  pub prefix-most : p ≤ 32
-  pub prefix : array ≡ padded 32 (s .prefix)
-  pub symbol-count : k ≡ length (s .symbols)
-  pub symbols-most : k ≤ 64
-  pub symbols : HoldsSymbols (s .symbols) codes xs ys
-
--- the arrays hold some query and some sign; the answer is the verdict, whichever they are
-pub record Lent (kind m : ℕ) (plo phi pturn : List ℕ) (n : ℕ) (lo hi turn qx qy : List ℕ) (variance p k : ℕ) (array codes xs ys : List ℕ) : Type 0 where
-  pub query : Query
-  pub sign : Meaning
-  pub asked : HoldsQuery query kind m plo phi pturn n lo hi turn qx qy variance
-  pub found : HoldsSign sign p k array codes xs ys
-
-pub record Judges (kind m : ℕ) (plo phi pturn : List ℕ) (n : ℕ) (lo hi turn qx qy : List ℕ) (variance p k : ℕ) (array codes xs ys : List ℕ) (r : Verdict) : Type 0 where
-  pub is : (q : Query) (s : Meaning) → HoldsQuery q kind m plo phi pturn n lo hi turn qx qy variance → HoldsSign s p k array codes xs ys → r ≡ answered (verdictOf q s)
-
--- WHAT THE INNER FUNCTIONS ANSWER, over the five numbers of an item
+-- A ROW AND A SYMBOL
 
 -- a code of lo to hi, whose remainder by 16 is turn unless turn is 16
 unfoldable pub fitsNumbers : ℕ → ℕ → ℕ → ℕ → Bool
 fitsNumbers lo hi turn code = leb lo code && (leb code hi && (eqb turn 16 || eqb (code % 16) turn))
 
-abbrev pub fitsItem : Numbers → ℕ → Bool
-fitsItem n code = fitsNumbers (n .lo) (n .hi) (n .turn) code
+-- the alternative at an offset, and one of the n from an offset on
+abbrev pub fitsOne : List ℕ → ℕ → ℕ → Bool
+fitsOne words at code = fitsNumbers (word words at) (word words (at + 1)) (word words (at + 2)) code
 
--- at the coordinate unless x is 0
-unfoldable pub servesNumbers : ℕ → Numbers → Spatial → Bool
-servesNumbers variance n s = fitsItem n (s .code) && (eqb (n .x) 0 || (within variance (n .x) (s .x) && within variance (n .y) (s .y)))
+unfoldable pub fitsRow : List ℕ → ℕ → ℕ → ℕ → Bool
+fitsRow words at zero code = false
+fitsRow words at (suc n) code = fitsOne words at code || fitsRow words (at + 3) n code
 
--- item j of arrays, and without a coordinate
-abbrev pub itemAt : List ℕ → List ℕ → List ℕ → List ℕ → List ℕ → ℕ → Numbers
-itemAt lo hi turn qx qy j = record { lo = at lo j; hi = at hi j; turn = at turn j; x = at qx j; y = at qy j }
+-- the row at an offset and a code
+unfoldable pub fitsAt : List ℕ → ℕ → ℕ → Bool
+fitsAt words at code = fitsRow words (at + 3) (word words (at + 2)) code
 
-abbrev pub bareAt : List ℕ → List ℕ → List ℕ → ℕ → Numbers
-bareAt lo hi turn j = record { lo = at lo j; hi = at hi j; turn = at turn j; x = 0; y = 0 }
+-- and a symbol, at the coordinate unless x is 0
+unfoldable pub servesAt : List ℕ → ℕ → ℕ → Spatial → Bool
+servesAt words at variance s =
+    fitsAt words at (s .code)
+    && (eqb (word words at) 0 || (within variance (word words at) (s .x) && within variance (word words (at + 1)) (s .y)))
 
--- the prefix condition of a kind
-unfoldable pub prefixNumbers : ℕ → List Numbers → List ℕ → Bool
-prefixNumbers kind items codes = choose (eqb kind 0) true (choose (eqb kind 1) (ltb 0 (length codes)) (beginsBy fitsItem items codes))
+-- THE ROWS
 
-unfoldable pub judgedNumbers : ℕ → List Numbers → List Spatial → Judgement
-judgedNumbers variance items symbols = judged (map (λ n. firstFrom 1 (servesNumbers variance n) symbols) items)
+-- the offset after the row at an offset, and that of row j
+abbrev pub after : List ℕ → ℕ → ℕ
+after words at = at + 3 + 3 * word words (at + 2)
+
+abbrev pub offset : List ℕ → ℕ → ℕ
+offset words zero = 4
+offset words (suc j) = after words (offset words j)
+
+-- words in which rows lie as the words of a query do
+pub record Laid (words : List ℕ) : Type 0 where
+  pub prefix-most : word words 1 ≤ 32
+  pub items-most : word words 2 ≤ 32
+  pub bare : word words 0 ≡ kindOf present → word words 1 ≡ 0
+  pub rows : (j : ℕ) → j < word words 1 + word words 2 → after words (offset words j) ≤ wordCount
+
+-- THE CONDITIONS
+
+-- the offset after the first m rows where the codes fit them one by one, otherwise 0
+unfoldable pub afterRows : List ℕ → ℕ → List ℕ → ℕ
+afterRows words m codes = choose (beginsBy (fitsAt words) (upto (offset words) m) codes) (offset words m) 0
+
+-- condition 0
+unfoldable pub prefixWords : List ℕ → List ℕ → Bool
+prefixWords words codes =
+    choose (eqb (word words 0) (kindOf present)) (ltb 0 (length codes)) (beginsBy (fitsAt words) (upto (offset words) (word words 1)) codes)
+
+unfoldable pub afterPrefix : List ℕ → List ℕ → ℕ
+afterPrefix words codes = choose (prefixWords words codes) (offset words (word words 1)) 0
+
+-- the other conditions
+unfoldable pub judgedWords : List ℕ → List Spatial → Judgement
+judgedWords words symbols =
+    judged (map (λ at. firstFrom 1 (servesAt words at (word words 3)) symbols) (upto (λ j. offset words (word words 1 + j)) (word words 2)))
+
+unfoldable pub verdictWords : List ℕ → List ℕ → List Spatial → Judgement
+verdictWords words codes symbols = choose (prefixWords words codes) (judgedWords words symbols) (unmet 0)

@@ -1,3 +1,4 @@
 pub mod Meets
 pub mod MeetsLaws
 pub mod Inner
+pub mod WordsLaws

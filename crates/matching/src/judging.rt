@@ -1,18 +1,14 @@
-// Judging a query and a sign that lie in lent arrays.
+// Judging a query that lies in words and a sign that lies in arrays.
 ghost use mathlib.Core.Path.{_≡_};
-ghost use Prim.Native.Nat.{_≤_};
+ghost use Prim.Native.Nat.{_+_, _*_, _≤_};
 ghost use Rattle.writer.specs.Arrays.{upto, at as valueAt, symbolAt};
-ghost use Rattle.matching.specs.Meets.{within, firstFrom, beginsBy, unmet as unmetAt, answered};
-ghost use Rattle.matching.specs.Inner.{fitsNumbers, fitsItem, servesNumbers, bareAt, itemAt, prefixNumbers, judgedNumbers, Lent, Judges};
+ghost use Rattle.queryitem.specs.Words.{wordCount};
+ghost use Rattle.matching.specs.Meets.{within, firstFrom, unmet as unmetAt, answered};
+ghost use Rattle.matching.specs.Inner.{word, fitsNumbers, fitsOne, fitsRow, fitsAt, servesAt, after, offset, Laid, afterRows, afterPrefix, judgedWords, verdictWords};
 use crate::Verdict;
-use queryitem::reading::Numbers;
-
-// What condition 0 asks of the prefix: nothing, that there is one, or that it begins with items.
-pub const FREE: u8 = 0;
-
-pub const PRESENT: u8 = 1;
-
-pub const BEGINS: u8 = 2;
+use queryitem::words::FIRST_ROW;
+use queryitem::words::PRESENT;
+use queryitem::words::WORDS;
 
 // Whether a code is one of lo to hi, with the remainder turn unless turn is 16.
 fn fits(lo: u16, hi: u16, turn: u16, code: u16) -> bool
@@ -40,37 +36,86 @@ fn near(variance: u16, a: u16, b: u16) -> bool
     (b as u32) <= (a as u32) + (variance as u32)
 }
 
-// Whether a symbol serves an item.
-fn serves(item: Numbers, variance: u16, code: u16, x: u16, y: u16) -> bool
-    ensures { λ r. ⌜ r ≡ servesNumbers variance item (record { code = code; x = x; y = y }) ⌝ }
+// Whether a code fits the alternative at an offset.
+fn fits_one(words: &[u16; WORDS], at: usize, code: u16) -> bool
+    requires { ⌜ at + 3 ≤ wordCount ⌝ }
+    ensures { λ r. ⌜ r ≡ fitsOne (now (words .entry)) at code ⌝ }
 {
-    if !fits(item.lo, item.hi, item.turn, code) {
-        return false;
-    }
-    if item.x == 0 {
-        return true;
-    }
-    if !near(variance, item.x, x) {
-        return false;
-    }
-    near(variance, item.y, y)
+    fits(words[at], words[at + 1], words[at + 2], code)
 }
 
-// The first of n symbols that serves an item, counted from 1, or 0.
+// Whether a code fits one of the n alternatives from an offset on.
+fn fits_row(words: &[u16; WORDS], at: usize, n: usize, code: u16) -> bool
+    requires { ⌜ at + 3 * n ≤ wordCount ⌝ }
+    ensures { λ r. ⌜ r ≡ fitsRow (now (words .entry)) at n code ⌝ }
+{
+    let mut i = at;
+    let mut left = n;
+    while 0 < left {
+        if fits_one(words, i, code) {
+            return true;
+        }
+        i += 3;
+        left -= 1;
+    }
+    false
+}
+
+// Whether a code satisfies the item whose row is at an offset. One alternative needs no loop.
+fn fits_at(words: &[u16; WORDS], at: usize, code: u16) -> bool
+    requires { ⌜ after (now words) at ≤ wordCount ⌝ }
+    ensures { λ r. ⌜ r ≡ fitsAt (now (words .entry)) at code ⌝ }
+{
+    let n = words[at + 2] as usize;
+    if n == 1 {
+        return fits_one(words, at + 3, code);
+    }
+    fits_row(words, at + 3, n, code)
+}
+
+// The offset after the row at an offset.
+fn next_row(words: &[u16; WORDS], at: usize) -> usize
+    requires { ⌜ after (now words) at ≤ wordCount ⌝ }
+    ensures { λ r. ⌜ r ≡ after (now (words .entry)) at ⌝ }
+{
+    let n = words[at + 2] as usize;
+    at + 3 + 3 * n
+}
+
+// Whether a symbol serves the item whose row is at an offset.
+fn serves_at(words: &[u16; WORDS], at: usize, variance: u16, code: u16, x: u16, y: u16) -> bool
+    requires { ⌜ after (now words) at ≤ wordCount ⌝ }
+    ensures { λ r. ⌜ r ≡ servesAt (now (words .entry)) at variance (record { code = code; x = x; y = y }) ⌝ }
+{
+    if !fits_at(words, at, code) {
+        return false;
+    }
+    let across = words[at];
+    if across == 0 {
+        return true;
+    }
+    if !near(variance, across, x) {
+        return false;
+    }
+    near(variance, words[at + 1], y)
+}
+
+// The first of n symbols that serves the item whose row is at an offset, counted from 1, or 0.
 fn first_serving<'a>(
-    item: Numbers,
+    words: &'a [u16; WORDS],
+    at: usize,
     variance: u16,
     n: usize,
     codes: &'a [u16; 64],
     xs: &'a [u16; 64],
     ys: &'a [u16; 64],
 ) -> u16
-    requires { ⌜ n ≤ 64 ⌝ }
-    ensures { λ r. ⌜ r ≡ firstFrom 1 (servesNumbers variance item) (upto (symbolAt (now (codes .entry)) (now (xs .entry)) (now (ys .entry))) n) ⌝ }
+    requires { ⌜ (n ≤ 64) × (after (now words) at ≤ wordCount) ⌝ }
+    ensures { λ r. ⌜ r ≡ firstFrom 1 (servesAt (now (words .entry)) at variance) (upto (symbolAt (now (codes .entry)) (now (xs .entry)) (now (ys .entry))) n) ⌝ }
 {
     let mut i: usize = 0;
     while i < n {
-        if serves(item, variance, codes[i], xs[i], ys[i]) {
+        if serves_at(words, at, variance, codes[i], xs[i], ys[i]) {
             return (i + 1) as u16;
         }
         i += 1;
@@ -78,51 +123,41 @@ fn first_serving<'a>(
     0
 }
 
-// Whether the n codes of a prefix begin with symbols that satisfy the m items one by one.
-fn begins_with<'a>(
-    m: usize,
-    lo: &'a [u16; 32],
-    hi: &'a [u16; 32],
-    turn: &'a [u16; 32],
-    n: usize,
-    codes: &'a [u16; 32],
-) -> bool
-    requires { ⌜ (m ≤ 32) × (n ≤ 32) ⌝ }
-    ensures { λ r. ⌜ r ≡ beginsBy fitsItem (upto (bareAt (now (lo .entry)) (now (hi .entry)) (now (turn .entry))) m) (upto (valueAt (now (codes .entry))) n) ⌝ }
+// The offset after the m rows of the prefix, where the n codes of a prefix begin with symbols that satisfy their
+// items one by one; otherwise 0.
+fn after_rows<'a>(words: &'a [u16; WORDS], m: usize, n: usize, codes: &'a [u16; 32]) -> usize
+    requires { ⌜ (Laid (now words)) × (m ≡ word (now words) 1) × (n ≤ 32) ⌝ }
+    ensures { λ r. ⌜ r ≡ afterRows (now (words .entry)) m (upto (valueAt (now (codes .entry))) n) ⌝ }
 {
     if n < m {
-        return false;
+        return 0;
     }
+    let mut at: usize = FIRST_ROW;
     let mut j: usize = 0;
     while j < m {
-        if !fits(lo[j], hi[j], turn[j], codes[j]) {
-            return false;
+        if !fits_at(words, at, codes[j]) {
+            return 0;
         }
+        at = next_row(words, at);
         j += 1;
     }
-    true
+    at
 }
 
-// Whether the prefix condition holds.
-fn prefix_holds<'a>(
-    kind: u8,
-    m: usize,
-    lo: &'a [u16; 32],
-    hi: &'a [u16; 32],
-    turn: &'a [u16; 32],
-    n: usize,
-    codes: &'a [u16; 32],
-) -> bool
-    requires { ⌜ (m ≤ 32) × (n ≤ 32) ⌝ }
-    ensures { λ r. ⌜ r ≡ prefixNumbers kind (upto (bareAt (now (lo .entry)) (now (hi .entry)) (now (turn .entry))) m) (upto (valueAt (now (codes .entry))) n) ⌝ }
+// The offset after the rows of the prefix where the prefix condition holds, otherwise 0.
+fn after_prefix<'a>(words: &'a [u16; WORDS], n: usize, codes: &'a [u16; 32]) -> usize
+    requires { ⌜ (Laid (now words)) × (n ≤ 32) ⌝ }
+    ensures { λ r. ⌜ r ≡ afterPrefix (now (words .entry)) (upto (valueAt (now (codes .entry))) n) ⌝ }
 {
-    if kind == FREE {
-        return true;
-    }
+    let kind = words[0];
+    let m = words[1] as usize;
     if kind == PRESENT {
-        return 0 < n;
+        if 0 < n {
+            return FIRST_ROW;
+        }
+        return 0;
     }
-    begins_with(m, lo, hi, turn, n, codes)
+    after_rows(words, m, n, codes)
 }
 
 fn unmet(condition: u16) -> Verdict
@@ -137,39 +172,31 @@ fn unmet(condition: u16) -> Verdict
     }
 }
 
-// The verdict on the signbox items.
-fn judge_items<'a>(
-    n: usize,
-    lo: &'a [u16; 32],
-    hi: &'a [u16; 32],
-    turn: &'a [u16; 32],
-    qx: &'a [u16; 32],
-    qy: &'a [u16; 32],
-    variance: u16,
+// The verdict on the signbox items, whose rows start at an offset.
+fn judge_rows<'a>(
+    words: &'a [u16; WORDS],
+    at: usize,
     k: usize,
     codes: &'a [u16; 64],
     xs: &'a [u16; 64],
     ys: &'a [u16; 64],
 ) -> Verdict
-    requires { ⌜ (n ≤ 32) × (k ≤ 64) ⌝ }
-    ensures { λ r. ⌜ r ≡ answered (judgedNumbers variance (upto (itemAt (now (lo .entry)) (now (hi .entry)) (now (turn .entry)) (now (qx .entry)) (now (qy .entry))) n) (upto (symbolAt (now (codes .entry)) (now (xs .entry)) (now (ys .entry))) k)) ⌝ }
+    requires { ⌜ (Laid (now words)) × (at ≡ offset (now words) (word (now words) 1)) × (k ≤ 64) ⌝ }
+    ensures { λ r. ⌜ r ≡ answered (judgedWords (now (words .entry)) (upto (symbolAt (now (codes .entry)) (now (xs .entry)) (now (ys .entry))) k)) ⌝ }
 {
+    let n = words[2] as usize;
+    let variance = words[3];
     let mut witnesses = [0u16; 32];
+    let mut i = at;
     let mut j: usize = 0;
     while j < n {
         let condition = (j + 1) as u16;
-        let item = Numbers {
-            lo: lo[j],
-            hi: hi[j],
-            turn: turn[j],
-            x: qx[j],
-            y: qy[j],
-        };
-        let w = first_serving(item, variance, k, codes, xs, ys);
+        let w = first_serving(words, i, variance, k, codes, xs, ys);
         if w == 0 {
             return unmet(condition);
         }
         witnesses[j] = w;
+        i = next_row(words, i);
         j += 1;
     }
     Verdict {
@@ -181,21 +208,9 @@ fn judge_items<'a>(
     }
 }
 
-// The verdict on a query (the kind of its prefix condition, m prefix items, n signbox items, the variance)
-// and a sign (p prefix symbols, k signbox symbols).
+// The verdict on a query that lies in words, and a sign (p prefix symbols, k signbox symbols).
 pub fn judge<'a>(
-    kind: u8,
-    m: usize,
-    plo: &'a [u16; 32],
-    phi: &'a [u16; 32],
-    pturn: &'a [u16; 32],
-    n: usize,
-    lo: &'a [u16; 32],
-    hi: &'a [u16; 32],
-    turn: &'a [u16; 32],
-    qx: &'a [u16; 32],
-    qy: &'a [u16; 32],
-    variance: u16,
+    words: &'a [u16; WORDS],
     p: usize,
     k: usize,
     prefix: &'a [u16; 32],
@@ -203,11 +218,12 @@ pub fn judge<'a>(
     xs: &'a [u16; 64],
     ys: &'a [u16; 64],
 ) -> Verdict
-    requires { ⌜ Lent kind m (now plo) (now phi) (now pturn) n (now lo) (now hi) (now turn) (now qx) (now qy) variance p k (now prefix) (now codes) (now xs) (now ys) ⌝ }
-    ensures { λ r. ⌜ Judges kind m (now (plo .entry)) (now (phi .entry)) (now (pturn .entry)) n (now (lo .entry)) (now (hi .entry)) (now (turn .entry)) (now (qx .entry)) (now (qy .entry)) variance p k (now (prefix .entry)) (now (codes .entry)) (now (xs .entry)) (now (ys .entry)) r ⌝ }
+    requires { ⌜ (Laid (now words)) × (p ≤ 32) × (k ≤ 64) ⌝ }
+    ensures { λ r. ⌜ r ≡ answered (verdictWords (now (words .entry)) (upto (valueAt (now (prefix .entry))) p) (upto (symbolAt (now (codes .entry)) (now (xs .entry)) (now (ys .entry))) k)) ⌝ }
 {
-    if !prefix_holds(kind, m, plo, phi, pturn, p, prefix) {
+    let at = after_prefix(words, p, prefix);
+    if at == 0 {
         return unmet(0);
     }
-    judge_items(n, lo, hi, turn, qx, qy, variance, k, codes, xs, ys)
+    judge_rows(words, at, k, codes, xs, ys)
 }

@@ -65,7 +65,7 @@ module _ (n u d : ℕ) where
   moved-inside h k l = rw (sum-sub n u d, not-less (n + u) d h, le-leb 250 (n + u - d) k, le-leb (n + u - d) 749 l)
 
 -- a number of 250 to 749
-both : (a b : Bool) → a && b ≡ true → (a ≡ true) × (b ≡ true)
+pub both : (a b : Bool) → a && b ≡ true → (a ≡ true) × (b ≡ true)
 both true b e = (refl, e)
 both false b e = absurd (false≢true e)
 

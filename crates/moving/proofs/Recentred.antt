@@ -1,72 +1,34 @@
 -- Centring a centred sign gives the same text again.
-use Prim.Native.Nat.{ℕ, suc, _+_, _/_, _<_}
+use Prim.Native.Nat.{ℕ, _+_, _/_, _<_}
 use mathlib.Core.Path.{_≡_, refl, sym, ap, _∙_}
-use mathlib.Core.Bool.{Bool, true, false, _&&_, not}
-use mathlib.Core.List.{List, [], _∷_, map}
+use mathlib.Core.Bool.{Bool, true, false, _&&_}
+use mathlib.Core.List.{List, map, map-map}
 use native.Mathlib.Omega.{arith}
-use borrow.Author.Tests.{eqb-false}
-use lib.Dec.{eqb, lit<}
-use lib.IntN.{ℤ, pos, subℕ}
-use lib.ListN.{length, getD}
+use lib.Dec.{lit<}
+use lib.IntN.{pos, subℕ}
+use lib.ListN.{length, getD, length-map}
 use Rattle.format.specs.Format.{choose}
 use Rattle.format.specs.Numeral.{Range}
 use Rattle.charset.specs.declared.Charset.{Charset}
 use Rattle.charset.specs.Tokens.{lastCode, lastWriting}
 use Rattle.grammar.specs.Sign.{Spatial, Meaning, Valid, ValidSymbol, signText}
-use Rattle.token.specs.Result.{Result, refusal, done, onDone, andThen}
+use Rattle.token.specs.Refusal.{numberOutside}
+use Rattle.token.specs.Result.{done, onDone, andThen}
+use Rattle.token.proofs.Checks.{check-done, onDone-done, andThen-done}
 use Rattle.reader.specs.Signs.{signOf}
 use Rattle.sign.proofs.Transcribing.{Within, sign-within}
 use Rattle.sign.proofs.Transcriptions.{written-reads}
 use Rattle.bounds.specs.declared.groups.Groups.{Groups}
 use Rattle.bounds.specs.Boxes.{groupsOf}
-use Rattle.bounds.specs.Sizes.{unsizedSymbol, measured}
+use Rattle.bounds.specs.Sizes.{firstUnsized, measured}
 use Rattle.bounds.specs.Centre.{all, boxOf, horizontal, vertical, serving, chosenBox, doubledOf}
-use Rattle.bounds.proofs.Measuring.{all-weaker}
+use Rattle.bounds.proofs.Measuring.{all-weaker, Measures, measures, measured-fine}
 use Rattle.moving.specs.Moves.{stays, allOf, xsOf, ysOf, movedSymbol, movedMeaning, movedSign, toMiddle, restated, centredBy, centredSign, centredText}
 use Rattle.moving.specs.Inner.{Coded}
-use Rattle.moving.proofs.Numbers.{stays-along}
+use Rattle.moving.proofs.Numbers.{both, stays-along}
 use Rattle.moving.proofs.Signs.{all-first, moved-valid}
 use Rattle.moving.proofs.Unmoved.{unmoved}
 use Rattle.moving.proofs.Along.{BoxAlong, serving-along}
-
--- what a measuring that is done says
-record Measures (sizes : List ℕ) (l : List Spatial) (g : Groups) : Type 0 where
-  pub groups : g ≡ groupsOf sizes l
-  pub some : 0 < length l
-
-measures-go : (sizes : List ℕ) (l : List Spatial) (g : Groups) (f : ℕ) (a b c : Bool) → eqb (length l) 0 ≡ b
-    → choose a (refusal 7 0) (choose b (refusal 9 0) (choose c (refusal 8 f) (done (groupsOf sizes l)))) ≡ done g → Measures sizes l g
-measures-go sizes l g f true b c q e = absurd (let z : _≡_ {A = ℕ} 0 1 = cc in omega arith)
-measures-go sizes l g f false true c q e = absurd (let z : _≡_ {A = ℕ} 0 1 = cc in omega arith)
-measures-go sizes l g f false false true q e = absurd (let z : _≡_ {A = ℕ} 0 1 = cc in omega arith)
-measures-go sizes l g f false false false q e = let z : groupsOf sizes l ≡ g = cc in record { groups = sym z; some = let h = eqb-false (length l) 0 q in omega arith }
-
-measures : (sizes : List ℕ) (l : List Spatial) (g : Groups) → measured sizes l ≡ done g → Measures sizes l g
-unfolding measured
-measures sizes l g e =
-    measures-go sizes l g (unsizedSymbol sizes l) (not (eqb (length sizes) 125184)) (eqb (length l) 0) (not (eqb (unsizedSymbol sizes l) 0)) refl e
-
-same-go : (g h k : Groups) (f : ℕ) (a b c : Bool) → choose a (refusal 7 0) (choose b (refusal 9 0) (choose c (refusal 8 f) (done g))) ≡ done k
-    → choose a (refusal 7 0) (choose b (refusal 9 0) (choose c (refusal 8 f) (done h))) ≡ done h
-same-go g h k f true b c e = absurd (let z : _≡_ {A = ℕ} 0 1 = cc in omega arith)
-same-go g h k f false true c e = absurd (let z : _≡_ {A = ℕ} 0 1 = cc in omega arith)
-same-go g h k f false false true e = absurd (let z : _≡_ {A = ℕ} 0 1 = cc in omega arith)
-same-go g h k f false false false e = refl
-
--- sizes go by codes alone
-measured-same : (sizes : List ℕ) (l m : List Spatial) (g : Groups) → length m ≡ length l → map (λ s. s .code) m ≡ map (λ s. s .code) l → measured sizes l ≡ done g
-    → measured sizes m ≡ done (groupsOf sizes m)
-unfolding measured
-measured-same sizes l m g n c e =
-    rw (n, c) (same-go (groupsOf sizes l) (groupsOf sizes m) g (unsizedSymbol sizes l) (not (eqb (length sizes) 125184)) (eqb (length l) 0) (not (eqb (unsizedSymbol sizes l) 0)) e)
-
-map-length : {A B : Type 0} (f : A → B) (l : List A) → length (map f l) ≡ length l
-map-length f [] = refl
-map-length f (a ∷ l) = ap suc (map-length f l)
-
-moved-codes : (dx dy : ℤ) (l : List Spatial) → map (λ s. s .code) (map (movedSymbol dx dy) l) ≡ map (λ s. s .code) l
-moved-codes dx dy [] = refl
-moved-codes dx dy (s ∷ l) = ap (λ m. s .code ∷ m) (moved-codes dx dy l)
 
 -- a centre that was moved to 500 moves no more
 middle : (d a b p q : ℕ) → p + d ≡ a + 500 → q + d ≡ b + 500 → d ≡ (a + b) / 2 → (p + q) / 2 ≡ 500
@@ -91,10 +53,7 @@ record Made (sizes : List ℕ) (new : Meaning) : Type 0 where
   pub again : centredSign sizes new ≡ done new
 
 -- a sign that is measured, and its numbers that stay as it is centred
-module _ (sizes : List ℕ) (m : Meaning) (w : Within m) (some : 0 < length (m .symbols)) where
-  abbrev g : Groups
-  g = groupsOf sizes (m .symbols)
-
+module _ (sizes : List ℕ) (m : Meaning) (g : Groups) where
   abbrev dx : ℕ
   dx = doubledOf g .x / 2
 
@@ -104,15 +63,20 @@ module _ (sizes : List ℕ) (m : Meaning) (w : Within m) (some : 0 < length (m .
   abbrev centred : Meaning
   centred = movedMeaning (subℕ 500 dx) (subℕ 500 dy) (restated g m)
 
-  module _ (e : measured sizes (m .symbols) ≡ done g) (h : allOf (stays (subℕ 500 dx)) (xsOf (restated g m)) ≡ true) (k : allOf (stays (subℕ 500 dy)) (ysOf (restated g m)) ≡ true) where
+  module _ (w : Within m) (is : Measures sizes (m .symbols) g) (h : allOf (stays (subℕ 500 dx)) (xsOf (restated g m)) ≡ true) (k : allOf (stays (subℕ 500 dy)) (ysOf (restated g m)) ≡ true) where
     abbrev after : Groups
     after = groupsOf sizes (centred .symbols)
 
     abbrev move : Spatial → Spatial
     move = movedSymbol (subℕ 500 dx) (subℕ 500 dy)
 
+    as-many : length (centred .symbols) ≡ length (m .symbols)
+    as-many = length-map (m .symbols) move
+
+    -- sizes go by codes alone
     remeasured : measured sizes (centred .symbols) ≡ done after
-    remeasured = measured-same sizes (m .symbols) (centred .symbols) g (map-length move (m .symbols)) (moved-codes (subℕ 500 dx) (subℕ 500 dy) (m .symbols)) e
+    remeasured =
+        measured-fine sizes (centred .symbols) (is .long) (rw as-many (is .some)) (ap (firstUnsized sizes 1) (map-map (λ s. s .code) move (m .symbols)) ∙ is .sized)
 
     coded : Coded (restated g m)
     coded = record {
@@ -125,7 +89,7 @@ module _ (sizes : List ℕ) (m : Meaning) (w : Within m) (some : 0 < length (m .
     valid = moved-valid (subℕ 500 dx) (subℕ 500 dy) (restated g m) coded h k
 
     within : Within centred
-    within = record { prefix = w .prefix; symbols = let n = map-length move (m .symbols) in let o = w .symbols in omega arith; valid = valid }
+    within = record { prefix = w .prefix; symbols = omega (arith, as-many, w .symbols); valid = valid }
 
     across : (stays (subℕ 500 dx) (restated g m .x) ≡ true) × (allOf (stays (subℕ 500 dx)) (map (λ s. s .x) (m .symbols)) ≡ true)
     across = all-first (stays (subℕ 500 dx)) (restated g m .x) (map (λ s. s .x) (m .symbols)) h
@@ -134,7 +98,7 @@ module _ (sizes : List ℕ) (m : Meaning) (w : Within m) (some : 0 < length (m .
     down = all-first (stays (subℕ 500 dy)) (restated g m .y) (map (λ s. s .y) (m .symbols)) k
 
     box-along : (i : ℕ) → i < 3 → BoxAlong 500 dx 500 dy (chosenBox g i) (chosenBox after i)
-    box-along i z = serving-along 500 dx 500 dy sizes (m .symbols) some (across .1) (down .1) i z
+    box-along i z = rw (is .groups) at (serving-along 500 dx 500 dy sizes (m .symbols) (is .some) (across .1) (down .1) i z)
 
     zero-x : toMiddle (doubledOf after .x) ≡ pos 0
     zero-x =
@@ -172,49 +136,32 @@ module _ (sizes : List ℕ) (m : Meaning) (w : Within m) (some : 0 < length (m .
     made : Made sizes centred
     made = record { within = within; again = recentred }
 
-tests : (sizes : List ℕ) (m : Meaning) → Within m → 0 < length (m .symbols) → measured sizes (m .symbols) ≡ done (groupsOf sizes (m .symbols)) → (new : Meaning)
-    → centredBy m (groupsOf sizes (m .symbols)) ≡ done new → Made sizes new
-unfolding movedSign
-tests sizes m w some e new q =
-    go (allOf (stays (toMiddle (doubledOf (groupsOf sizes (m .symbols)) .x))) (xsOf (restated (groupsOf sizes (m .symbols)) m)))
-    (allOf (stays (toMiddle (doubledOf (groupsOf sizes (m .symbols)) .y))) (ysOf (restated (groupsOf sizes (m .symbols)) m))) refl refl q
-  where
-    go : (a b : Bool) → allOf (stays (toMiddle (doubledOf (groupsOf sizes (m .symbols)) .x))) (xsOf (restated (groupsOf sizes (m .symbols)) m)) ≡ a
-        → allOf (stays (toMiddle (doubledOf (groupsOf sizes (m .symbols)) .y))) (ysOf (restated (groupsOf sizes (m .symbols)) m)) ≡ b
-        → choose (a && b) (done (movedMeaning (toMiddle (doubledOf (groupsOf sizes (m .symbols)) .x)) (toMiddle (doubledOf (groupsOf sizes (m .symbols)) .y)) (restated (groupsOf sizes (m .symbols)) m))) (refusal 10 0) ≡ done new
-        → Made sizes new
-    go true true h k q =
-        let same : movedMeaning (toMiddle (doubledOf (groupsOf sizes (m .symbols)) .x)) (toMiddle (doubledOf (groupsOf sizes (m .symbols)) .y)) (restated (groupsOf sizes (m .symbols)) m) ≡ new = cc in
-        rw same at (made sizes m w some e h k)
-    go true false h k q = absurd (let z : _≡_ {A = ℕ} 0 1 = cc in omega arith)
-    go false b h k q = absurd (let z : _≡_ {A = ℕ} 0 1 = cc in omega arith)
-
-moved-made : (sizes : List ℕ) (m : Meaning) → Within m → (r : Result Groups) → measured sizes (m .symbols) ≡ r → (new : Meaning) → andThen r (centredBy m) ≡ done new → Made sizes new
-moved-made sizes m w (refusal n p) q new e = absurd (let z : _≡_ {A = ℕ} 0 1 = cc in omega arith)
-moved-made sizes m w (done g) q new e =
-    let is = measures sizes (m .symbols) g q in
-    tests sizes m w (is .some) (q ∙ ap done (is .groups)) new (ap (centredBy m) (sym (is .groups)) ∙ e)
+same-done : {A : Type 0} {a b : A} → done a ≡ done b → a ≡ b
+same-done e = cc
 
 centred-made : (sizes : List ℕ) (m : Meaning) → Within m → (new : Meaning) → centredSign sizes m ≡ done new → Made sizes new
-unfolding centredSign
-centred-made sizes m w new e = moved-made sizes m w (measured sizes (m .symbols)) refl new e
+unfolding centredSign movedSign
+centred-made sizes m w new e =
+    let d = andThen-done (measured sizes (m .symbols)) (centredBy m) e in
+    let is = measures sizes (m .symbols) (d .0) (d .1 .0) in
+    let old = restated (d .0) m in
+    let dx = toMiddle (doubledOf (d .0) .x) in
+    let dy = toMiddle (doubledOf (d .0) .y) in
+    let c = check-done (allOf (stays dx) (xsOf old) && allOf (stays dy) (ysOf old)) numberOutside 0 (done (movedMeaning dx dy old)) (d .1 .1) in
+    let stay = both (allOf (stays dx) (xsOf old)) (allOf (stays dy) (ysOf old)) (c .0) in
+    rw (same-done (c .1)) at (made sizes m (d .0) w is (stay .0) (stay .1))
 
-text-again : (set : Charset) (sizes other : List ℕ) (new : Meaning) → Made sizes new → other ≡ signText set new → centredText set other sizes ≡ done other
+text-again : (set : Charset) (sizes other : List ℕ) (new : Meaning) → Made sizes new → signText set new ≡ other → centredText set other sizes ≡ done other
 unfolding centredText
 text-again set sizes other new made is =
-    ap (λ t. onDone (signText set) (andThen (signOf set t) (centredSign sizes))) is
+    ap (λ t. onDone (signText set) (andThen (signOf set t) (centredSign sizes))) (sym is)
     ∙ ap (λ r. onDone (signText set) (andThen r (centredSign sizes))) (written-reads set new (made .within))
     ∙ ap (onDone (signText set)) (made .again)
-    ∙ ap done (sym is)
-
-again-go : (set : Charset) (sizes text other : List ℕ) (r : Result Meaning) → signOf set text ≡ r → (c : Result Meaning) → andThen r (centredSign sizes) ≡ c
-    → onDone (signText set) c ≡ done other → centredText set other sizes ≡ done other
-again-go set sizes text other r q (refusal n p) s e = absurd (let z : _≡_ {A = ℕ} 0 1 = cc in omega arith)
-again-go set sizes text other (refusal n p) q (done new) s e = absurd (let z : _≡_ {A = ℕ} 0 1 = cc in omega arith)
-again-go set sizes text other (done m) q (done new) s e =
-    let is : signText set new ≡ other = cc in
-    text-again set sizes other new (centred-made sizes m (sign-within set text m q) new s) (sym is)
+    ∙ ap done is
 
 pub again : (set : Charset) (sizes text other : List ℕ) → centredText set text sizes ≡ done other → centredText set other sizes ≡ done other
 unfolding centredText
-again set sizes text other e = again-go set sizes text other (signOf set text) refl (andThen (signOf set text) (centredSign sizes)) refl e
+again set sizes text other e =
+    let c = onDone-done (signText set) (andThen (signOf set text) (centredSign sizes)) e in
+    let r = andThen-done (signOf set text) (centredSign sizes) (c .1 .0) in
+    text-again set sizes other (c .0) (centred-made sizes (r .0) (sign-within set text (r .0) (r .1 .0)) (c .0) (r .1 .1)) (c .1 .1)

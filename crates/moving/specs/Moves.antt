@@ -4,11 +4,10 @@ use mathlib.Core.Bool.{Bool, true, _&&_}
 use mathlib.Core.List.{List, [], _∷_, map}
 use lib.IntN.{ℤ, pos, _+ℤ_, subℕ, natAbs}
 use lib.Signed.{leZ}
-use Rattle.format.specs.Format.{choose}
 use Rattle.charset.specs.declared.Charset.{Charset}
 use Rattle.grammar.specs.Sign.{Spatial, Meaning, signText}
 use Rattle.token.specs.Refusal.{numberOutside}
-use Rattle.token.specs.Result.{Result, refusal, done, onDone, andThen}
+use Rattle.token.specs.Result.{Result, done, onDone, check, andThen}
 use Rattle.reader.specs.Signs.{signOf}
 use Rattle.bounds.specs.declared.groups.Groups.{Groups}
 use Rattle.bounds.specs.Sizes.{measured}
@@ -49,7 +48,7 @@ movedMeaning dx dy m = record {
 
 -- Every coordinate and the maximum are moved: refused as 10 if any number leaves 250 to 749.
 unfoldable pub movedSign : ℤ → ℤ → Meaning → Result Meaning
-movedSign dx dy m = choose (allOf (stays dx) (xsOf m) && allOf (stays dy) (ysOf m)) (done (movedMeaning dx dy m)) (refusal numberOutside 0)
+movedSign dx dy m = check (allOf (stays dx) (xsOf m) && allOf (stays dy) (ysOf m)) numberOutside 0 (done (movedMeaning dx dy m))
 
 -- SHIFTING: the text in the character set that was read
 unfoldable pub shiftedText : Charset → List ℕ → ℤ → ℤ → Result (List ℕ)

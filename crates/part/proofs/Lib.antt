@@ -1,1 +1,4 @@
+pub mod Bytes
+pub mod Spelling
+pub mod Characters
 pub mod Placing

@@ -2,6 +2,7 @@
 use Prim.Native.Nat.{ℕ, _+_, _≤_, _<_}
 use mathlib.Core.Path.{_≡_, refl, sym, ap, _∙_}
 use mathlib.Core.List.{List}
+use lib.ListN.{length}
 use native.Mathlib.Omega.{arith}
 use Rattle.format.specs.Format.{Format}
 use Rattle.format.specs.Located.{Located, found, wrongAt, cut, locate, andThen, onFound}
@@ -12,14 +13,26 @@ use Rattle.charset.specs.declared.Charset.the-variants.{Fsw, Swu}
 use Rattle.charset.specs.Tokens.{Tokens, tokens}
 use Rattle.charset.proofs.Sets.{lawful}
 use Rattle.grammar.specs.Sign.{point, placed}
-use Rattle.fast.specs.declared.fsw.Placed.{Placed}
-use Rattle.fast.specs.declared.fsw.Placed.the-variants.{At, Wrong, Short}
-use Rattle.fast.specs.Fast.{Sure, SureValue}
+use Rattle.part.specs.declared.reading.Placed.{Placed}
+use Rattle.part.specs.declared.reading.Placed.the-variants.{At, Wrong, Short}
+use Rattle.part.specs.declared.quick.Look.{Look}
+use Rattle.part.specs.declared.quick.Look.the-variants.{Found}
+use Rattle.part.specs.Inner.{pointAfter, pointThen, Sure, SureValue}
 use Rattle.token.specs.declared.reading.Token.{Token}
 use Rattle.token.specs.declared.reading.Token.the-variants as token
 use Rattle.token.specs.Token.{told, tokenAt}
+use Rattle.token.specs.Result.{onDone, ofLocated}
 use Rattle.token.proofs.Told.{told-value, told-wrong, told-short, told-at}
-use Rattle.part.specs.Placed.{toldPlaced, placedAt, pointAfter, pointThen}
+use Rattle.part.specs.Placed.{toldPlaced, placedResult, placedAt, PlacedResult}
+
+pub placed-result : PlacedResult
+unfolding placedAt
+placed-result f s at = go (locate f s at)
+  where
+    go : (l : Located (ℕ × (ℕ × ℕ))) → placedResult (length s) (toldPlaced l) ≡ onDone (λ p. p .0) (ofLocated (length s) l)
+    go (found v next) = refl
+    go (wrongAt p) = refl
+    go cut = refl
 
 -- no token before a coordinate's second number is longer than a symbol of FSW
 pub record Sizes (t : Tokens) : Type 0 where
@@ -95,8 +108,8 @@ module _ (set : Charset) (n : ℕ) (f : Format ℕ) (x : Fixed (tokens set .unit
       ∙ ap toldPlaced (sym (sequence-at (tokens set .unit) f (λ v. point (tokens set)) (x .delimited) s at))
 
 -- what a quick look finds
-pub sure-placed : (w n : ℕ) (f : Format (ℕ × (ℕ × ℕ))) → Fixed w n f → (s : List ℕ) (at : ℕ) (r : Placed) → Sure n f s at r
-    → (v x y : ℕ) → r ≡ At v x y → At v x y ≡ placedAt f s at
+pub sure-placed : (w n : ℕ) (f : Format (ℕ × (ℕ × ℕ))) → Fixed w n f → (s : List ℕ) (at : ℕ) (r : Look) → Sure n f s at r
+    → (v x y : ℕ) → r ≡ Found v x y → At v x y ≡ placedAt f s at
 unfolding placedAt
 sure-placed w n f k s at r sure v x y e =
     let p = sure .is v x y e in

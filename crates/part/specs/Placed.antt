@@ -1,15 +1,20 @@
 -- What a function that reads a part of a sign at an offset of a text answers.
 use Prim.Native.Nat.{ℕ}
+use mathlib.Core.Path.{_≡_}
 use mathlib.Core.List.{List}
+use lib.ListN.{length}
 use Rattle.format.specs.Format.{Format}
-use Rattle.format.specs.Located.{Located, found, wrongAt, cut, locate, onFound}
-use Rattle.charset.specs.declared.Charset.{Charset}
-use Rattle.charset.specs.Tokens.{tokens}
-use Rattle.fast.specs.declared.fsw.Placed.{Placed}
-use Rattle.fast.specs.declared.fsw.Placed.the-variants.{At, Wrong, Short}
-use Rattle.token.specs.declared.reading.Token.{Token}
-use Rattle.token.specs.declared.reading.Token.the-variants as token
-use Rattle.grammar.specs.Sign.{point}
+use Rattle.format.specs.Located.{Located, found, wrongAt, cut, locate}
+use Rattle.token.specs.Refusal.{textWrong, textShort}
+use Rattle.token.specs.Result.{Result, refusal, done, valueAt}
+use Rattle.part.specs.declared.reading.Placed.{Placed}
+use Rattle.part.specs.declared.reading.Placed.the-variants.{At, Wrong, Short}
+
+-- document 01's number and place, or the value with its coordinate, for each answer about a text of size bytes
+abbrev pub placedResult : ℕ → Placed → Result (ℕ × (ℕ × ℕ))
+placedResult size (At v x y) = done (v, (x, y))
+placedResult size (Wrong p) = refusal textWrong p
+placedResult size Short = refusal textShort size
 
 -- a code or a marker with its coordinate, at an offset
 abbrev pub toldPlaced : Located (ℕ × (ℕ × ℕ)) → Placed
@@ -20,11 +25,6 @@ toldPlaced cut = Short
 unfoldable pub placedAt : Format (ℕ × (ℕ × ℕ)) → List ℕ → ℕ → Placed
 placedAt f s at = toldPlaced (locate f s at)
 
--- the coordinate that follows a value
-unfoldable pub pointAfter : Charset → List ℕ → ℕ → ℕ → Placed
-pointAfter set s at v = toldPlaced (onFound (λ p. (v, p)) (locate (point (tokens set)) s at))
-
-unfoldable pub pointThen : Charset → List ℕ → ℕ → Token → Placed
-pointThen set s at (token.Value v) = pointAfter set s at v
-pointThen set s at (token.Wrong p) = Wrong p
-pointThen set s at token.Short = Short
+-- what is answered comes to what the format does
+abbrev pub PlacedResult : Type 1
+PlacedResult = (f : Format (ℕ × (ℕ × ℕ))) (s : List ℕ) (at : ℕ) → placedResult (length s) (placedAt f s at) ≡ valueAt f s at

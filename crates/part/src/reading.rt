@@ -6,31 +6,22 @@ ghost use Rattle.charset.specs.Tokens.{tokens};
 ghost use Rattle.grammar.specs.Sign.{head, spatial, prefixSymbol};
 ghost use Rattle.grammar.specs.SignLaws.{headSize, spatialSize};
 ghost use Rattle.token.specs.Token.{tokenAt};
-ghost use Rattle.fast.specs.Fast.{Sure, SureValue};
-ghost use Rattle.part.specs.Placed.{placedAt, pointAfter, pointThen};
+ghost use Rattle.part.specs.Placed.{placedAt};
+ghost use Rattle.part.specs.Inner.{pointAfter, pointThen, Sure, SureValue};
+use super::quick::Look;
 use charset::Charset;
-use fast::fsw::Placed;
+use token::reading::LAST_LOCATION;
+use token::reading::LAST_WRITING;
 use token::reading::Token;
 
-// The bytes of each token.
-pub fn marker_size(set: Charset) -> usize
-    ensures { λ r. ⌜ r ≡ tokens set .markerSize ⌝ }
-{
-    match set {
-        Charset::Fsw => 1,
-        Charset::Swu => 4,
-    }
+// A code or a marker with its coordinate; the offset of the unit that is not allowed; or that the text ends.
+pub enum Placed {
+    At(u16, u16, u16),
+    Wrong(usize),
+    Short,
 }
 
-pub fn number_size(set: Charset) -> usize
-    ensures { λ r. ⌜ r ≡ tokens set .numberSize ⌝ }
-{
-    match set {
-        Charset::Fsw => 3,
-        Charset::Swu => 4,
-    }
-}
-
+// The bytes of a signbox head and of a spatial symbol.
 pub fn head_size(set: Charset) -> usize
     ensures { λ r. ⌜ r ≡ headSize set ⌝ }
 {
@@ -56,7 +47,7 @@ fn point_after(set: Charset, s: &[u8], at: usize, v: u16) -> Placed
 {
     match token::reading::number_at(set, s, at) {
         Token::Value(x) => {
-            let size = number_size(set);
+            let size = token::reading::number_size(set);
             match token::reading::second_at(set, s, at + size) {
                 Token::Value(y) => Placed::At(v, x, y),
                 Token::Wrong(p) => Placed::Wrong(p),
@@ -85,7 +76,7 @@ fn head_careful(set: Charset, s: &[u8], at: usize) -> Placed
     requires { ⌜ at + 256 ≤ 2 ^ 64 ⌝ }
     ensures { λ r. ⌜ r ≡ placedAt (head (tokens set)) (now (s .entry)) at ⌝ }
 {
-    let size = marker_size(set);
+    let size = token::reading::marker_size(set);
     point_then(
         set,
         s,
@@ -104,18 +95,18 @@ fn spatial_careful(set: Charset, s: &[u8], at: usize) -> Placed
         set,
         s,
         at + size,
-        token::reading::symbol_at(set, s, at, 0x37e),
+        token::reading::symbol_at(set, s, at, LAST_WRITING),
     )
 }
 
 // What a quick look finds.
-fn quick_head(set: Charset, s: &[u8], at: usize) -> Placed
+fn quick_head(set: Charset, s: &[u8], at: usize) -> Look
     requires { ⌜ at + 256 ≤ 2 ^ 64 ⌝ }
     ensures { λ r. ⌜ Sure (headSize set) (head (tokens set)) (now (s .entry)) at r ⌝ }
 {
     match set {
-        Charset::Fsw => fast::fsw::head_at(s, at),
-        Charset::Swu => fast::swu::head_at(s, at),
+        Charset::Fsw => super::quick_fsw::head_at(s, at),
+        Charset::Swu => super::quick_swu::head_at(s, at),
     }
 }
 
@@ -124,8 +115,8 @@ fn quick_prefix_symbol(set: Charset, s: &[u8], at: usize) -> u16
     ensures { λ r. ⌜ SureValue (tokens set .symbolSize) (prefixSymbol (tokens set)) (now (s .entry)) at r ⌝ }
 {
     match set {
-        Charset::Fsw => fast::fsw::prefix_symbol(s, at),
-        Charset::Swu => fast::swu::prefix_symbol(s, at),
+        Charset::Fsw => super::quick_fsw::prefix_symbol(s, at),
+        Charset::Swu => super::quick_swu::prefix_symbol(s, at),
     }
 }
 
@@ -135,7 +126,7 @@ pub fn head_at(set: Charset, s: &[u8], at: usize) -> Placed
     ensures { λ r. ⌜ r ≡ placedAt (head (tokens set)) (now (s .entry)) at ⌝ }
 {
     let quick = quick_head(set, s, at);
-    let Placed::At(m, x, y) = quick else {
+    let Look::Found(m, x, y) = quick else {
         return head_careful(set, s, at);
     };
     Placed::At(m, x, y)
@@ -149,15 +140,15 @@ pub fn spatial_at(set: Charset, s: &[u8], at: usize) -> Placed
 {
     match set {
         Charset::Fsw => {
-            let quick = fast::fsw::spatial_at(s, at);
-            let Placed::At(code, x, y) = quick else {
+            let quick = super::quick_fsw::spatial_at(s, at);
+            let Look::Found(code, x, y) = quick else {
                 return spatial_careful(Charset::Fsw, s, at);
             };
             Placed::At(code, x, y)
         }
         Charset::Swu => {
-            let quick = fast::swu::spatial_at(s, at);
-            let Placed::At(code, x, y) = quick else {
+            let quick = super::quick_swu::spatial_at(s, at);
+            let Look::Found(code, x, y) = quick else {
                 return spatial_careful(Charset::Swu, s, at);
             };
             Placed::At(code, x, y)
@@ -174,5 +165,5 @@ pub fn prefix_symbol_at(set: Charset, s: &[u8], at: usize) -> Token
     if code != 0 {
         return Token::Value(code);
     }
-    token::reading::symbol_or_null_at(set, s, at, 0x386)
+    token::reading::symbol_or_null_at(set, s, at, LAST_LOCATION)
 }

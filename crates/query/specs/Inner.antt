@@ -1,49 +1,60 @@
--- What the inner functions of reading a query promise: what they answer, and what the lent arrays hold.
-use Prim.Native.Nat.{ℕ, zero, suc, _≤_}
+-- What the inner functions of reading a query promise: what they answer, and what they put into the lent words.
+use Prim.Native.Nat.{ℕ, zero, suc, _+_, _*_, _≤_, min}
 use mathlib.Core.Path.{_≡_}
-use mathlib.Core.List.{List, map}
+use mathlib.Core.List.{List, [], _∷_, map}
 use mathlib.Core.Logic.{inl, inr}
-use mathlib.Core.Option.{none, some}
-use lib.Dec.{eqb, ltb}
+use mathlib.Core.Option.{Option, none, some}
+use lib.Dec.{eqb, leb}
 use lib.ListN.{length}
-use Rattle.format.specs.Format.{choose, optional}
-use Rattle.format.specs.Places.{Outcome, fine, refused, unfinished}
+use lib.Seq.{sets}
+use Rattle.format.specs.Format.{optional}
+use Rattle.format.specs.Places.{fine}
 use Rattle.format.specs.Located.{found, locate, onFound, ended}
 use Rattle.token.specs.Refusal.{prefixLong, signboxLong, rangeReversed}
-use Rattle.token.specs.Result.{Result, refusal, done}
-use Rattle.reader.specs.Signs.{padded}
-use Rattle.querygrammar.specs.Query.{Item, Query as Asked, TailText, QueryText, signboxItem, prefixItems as prefixFormat, head, tail, afterQ, query, itemOf, soughtOf, varianceOf, prefixOf, meaning, itemsOf, kindOf}
+use Rattle.token.specs.Result.{Result, refusal, done, check, andThen, ofOutcome}
+use Rattle.reader.specs.Signs.{padded, zeros}
+use Rattle.querygrammar.specs.Query.{Query, HeadText, TailText, kindOf, item, signboxItem, prefixItems as prefixFormat, head, tail, afterQ, query, itemOf, soughtOf, prefixOf, itemsOf, varianceOf}
 use Rattle.querygrammar.specs.QueryLaws.{readQuery}
-use Rattle.queryitem.specs.Numbers.{lowest, highest, remainder, numbersOf}
-use Rattle.querypart.specs.Ranges.{firstReversed}
-use Rattle.querypart.specs.Inner.{orZero, orEarlier, Held}
-use Rattle.query.specs.declared.arrays.Draft.{Draft}
-use Rattle.query.specs.declared.arrays.Head.{Head}
-use Rattle.query.specs.Reading.{reversedIn, queryOf}
+use Rattle.queryitem.specs.Numbers.{bareItem}
+use Rattle.queryitem.specs.Words.{wordCount, rowsWords, wordsOf}
+use Rattle.querypart.specs.declared.items.Count.{Count}
+use Rattle.querypart.specs.Ranges.{spotsFrom, firstReversed}
+use Rattle.querypart.specs.Inner.{orZero, orEarlier}
+use Rattle.query.specs.declared.words.Head.{Head}
+use Rattle.query.specs.Reading.{headItems, queryOf}
 
--- the numbers of what was read after a prefix condition, and of a refusal
-abbrev pub noDraft : ℕ → ℕ → Draft
-noDraft number place = record { number = number; place = place; kind = 0; «prefix_count» = 0; «item_count» = 0; variance = 0; reversed = 0 }
+-- how a reading is answered beside the words
+abbrev pub headOf : {A : Type 0} → Result A → Head
+headOf (refusal number place) = record { number = number; place = place }
+headOf (done a) = record { number = 0; place = 0 }
 
-abbrev pub draftOf : ℕ → ℕ → ℕ → ℕ → TailText → Draft
-draftOf at kind before earlier t = record {
-  number = 0;
-  place = 0;
-  kind = kind;
-  «prefix_count» = before;
-  «item_count» = length (t .0);
-  variance = varianceOf (t .1);
-  reversed = orEarlier earlier (orZero (firstReversed signboxItem (λ p. itemOf (p .0)) at (t .0)));
-}
+-- THE LIMITS AND THE ORDER, with 0 for no reversed range
 
-abbrev pub TailAs : ℕ → ℕ → ℕ → ℕ → ℕ → Outcome TailText → Draft → List ℕ → List ℕ → List ℕ → List ℕ → List ℕ → Type 0
-TailAs size at kind before earlier (fine t) d lo hi turn xs ys =
-    (d ≡ draftOf at kind before earlier t) × Held (λ p. numbersOf (soughtOf p)) (t .0) lo hi turn xs ys
-TailAs size at kind before earlier (refused p) d lo hi turn xs ys = d ≡ noDraft 1 p
-TailAs size at kind before earlier unfinished d lo hi turn xs ys = d ≡ noDraft 2 size
+abbrev pub ordered : ℕ → Result Unit
+ordered reversed = check (eqb reversed 0) rangeReversed reversed (done tt)
 
-pub record TailIn (s : List ℕ) (at kind before earlier : ℕ) (d : Draft) (lo hi turn xs ys : List ℕ) : Type 0 where
-  pub is : TailAs (length s) at kind before earlier (ended 1 (length s) (locate tail s at)) d lo hi turn xs ys
+abbrev pub limits : ℕ → ℕ → ℕ → Result Unit
+limits before count reversed = check (leb before 32) prefixLong 0 (check (leb count 32) signboxLong 0 (ordered reversed))
+
+-- the words o became p: the first four are put where nothing is refused
+pub record LimitedInto (kind before count variance reversed : ℕ) (o : List ℕ) (h : Head) (p : List ℕ) : Type 0 where
+  pub is : h ≡ headOf (limits before count reversed)
+  pub holds : h .number ≡ 0 → p ≡ sets o 0 (kind ∷ before ∷ count ∷ variance ∷ [])
+
+-- THE SIGNBOX ITEMS AND THE VARIANCE, after a prefix condition of a kind with so many items
+
+abbrev pub afterRows : ℕ → ℕ
+afterRows count = 4 + 6 * min count 32
+
+pub record TailIn (s : List ℕ) (at kind before earlier : ℕ) (o : List ℕ) (h : Head) (p : List ℕ) : Type 0 where
+  pub is : h
+      ≡ headOf
+      (andThen (ofOutcome (length s) (ended 1 (length s) (locate tail s at)))
+      λ t. limits before (length (t .0)) (orEarlier earlier (orZero (firstReversed (spotsFrom signboxItem (λ p. itemOf (p .0)) at (t .0))))))
+  pub holds : (t : TailText) → ended 1 (length s) (locate tail s at) ≡ fine t → h .number ≡ 0
+      → p ≡ sets (sets o (afterRows before) (rowsWords (map soughtOf (t .0)))) 0 (kind ∷ before ∷ length (t .0) ∷ varianceOf (t .1) ∷ [])
+
+-- WHAT FOLLOWS THE Q
 
 -- a text that begins with Q, and what follows the Q
 pub record Asks (s : List ℕ) : Type 0 where
@@ -63,54 +74,22 @@ pub record Prefixed (s : List ℕ) : Type 0 where
   pub asks : Asks s
   pub opened : Opened 2 s
 
--- a query that was read, in lent arrays
-pub record HeldPrefix (l : List Item) (lo hi turn : List ℕ) : Type 0 where
-  pub lows : lo ≡ padded 32 (map lowest l)
-  pub highs : hi ≡ padded 32 (map highest l)
-  pub turns : turn ≡ padded 32 (map remainder l)
+-- what asks for a prefix, before the tail
+pub record Leads (s : List ℕ) (h : Option HeadText) (at kind before earlier : ℕ) (o : List ℕ) : Type 0 where
+  pub is : locate (optional head) s 1 ≡ found h at
+  pub kinds : kind ≡ kindOf (prefixOf h)
+  pub count : before ≡ length (itemsOf (prefixOf h))
+  pub first : earlier ≡ orZero (firstReversed (spotsFrom item itemOf 2 (headItems h)))
+  pub held : before ≤ 32 → o ≡ sets (zeros wordCount) 4 (rowsWords (map bareItem (itemsOf (prefixOf h))))
 
--- what the text says
-abbrev pub wholeDraft : QueryText → Draft
-wholeDraft t = record {
-  number = 0;
-  place = 0;
-  kind = kindOf (prefixOf (t .0));
-  «prefix_count» = length (itemsOf (prefixOf (t .0)));
-  «item_count» = length (meaning t .items);
-  variance = meaning t .variance;
-  reversed = orZero (reversedIn t);
-}
+pub record PrefixIn (s : List ℕ) (kind : ℕ) (r : Count) (p : List ℕ) : Type 0 where
+  pub failed : (r .number ≡ 0 → ⊥) → ofOutcome (length s) (readQuery s) ≡ refusal (r .number) (r .place)
+  pub leads : r .number ≡ 0 → (h : Option HeadText) × Leads s h (r .place) kind (r .count) (r .reversed) p
+  pub room : r .number ≡ 0 → (1 ≤ r .place) × (r .place ≤ length s)
+  pub size : length p ≡ wordCount
 
-abbrev pub TextAs : ℕ → Outcome QueryText → Draft → List ℕ → List ℕ → List ℕ → List ℕ → List ℕ → List ℕ → List ℕ → List ℕ → Type 0
-TextAs size (fine t) d plo phi pturn lo hi turn xs ys =
-    (d ≡ wholeDraft t) × (HeldPrefix (itemsOf (meaning t .prefix)) plo phi pturn × Held numbersOf (meaning t .items) lo hi turn xs ys)
-TextAs size (refused p) d plo phi pturn lo hi turn xs ys = d ≡ noDraft 1 p
-TextAs size unfinished d plo phi pturn lo hi turn xs ys = d ≡ noDraft 2 size
+-- THE QUERY
 
-pub record TextInto (s : List ℕ) (d : Draft) (plo phi pturn lo hi turn xs ys : List ℕ) : Type 0 where
-  pub is : TextAs (length s) (readQuery s) d plo phi pturn lo hi turn xs ys
-
--- and what is within the limits and in order
-abbrev pub noHead : ℕ → ℕ → Head
-noHead number place = record { number = number; place = place; kind = 0; «prefix_count» = 0; «item_count» = 0; variance = 0 }
-
-unfoldable pub judged : Draft → Head
-judged d =
-    choose (eqb (d .number) 0)
-    (choose (ltb 32 (d .«prefix_count»)) (noHead prefixLong 0)
-    (choose (ltb 32 (d .«item_count»)) (noHead signboxLong 0)
-    (choose (eqb (d .reversed) 0)
-    (record { number = 0; place = 0; kind = d .kind; «prefix_count» = d .«prefix_count»; «item_count» = d .«item_count»; variance = d .variance })
-    (noHead rangeReversed (d .reversed)))))
-    (noHead (d .number) (d .place))
-
-abbrev pub headOf : Asked → Head
-headOf q = record { number = 0; place = 0; kind = kindOf (q .prefix); «prefix_count» = length (itemsOf (q .prefix)); «item_count» = length (q .items); variance = q .variance }
-
-abbrev pub ReadAs : Result Asked → Head → List ℕ → List ℕ → List ℕ → List ℕ → List ℕ → List ℕ → List ℕ → List ℕ → Type 0
-ReadAs (refusal number place) h plo phi pturn lo hi turn xs ys = h ≡ noHead number place
-ReadAs (done q) h plo phi pturn lo hi turn xs ys =
-    (h ≡ headOf q) × (HeldPrefix (itemsOf (q .prefix)) plo phi pturn × Held numbersOf (q .items) lo hi turn xs ys)
-
-pub record ReadInto (s : List ℕ) (h : Head) (plo phi pturn lo hi turn xs ys : List ℕ) : Type 0 where
-  pub is : ReadAs (queryOf s) h plo phi pturn lo hi turn xs ys
+pub record ReadInto (s : List ℕ) (h : Head) (words : List ℕ) : Type 0 where
+  pub is : h ≡ headOf (queryOf s)
+  pub holds : (q : Query) → queryOf s ≡ done q → words ≡ padded wordCount (wordsOf q)

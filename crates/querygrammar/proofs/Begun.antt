@@ -1,5 +1,5 @@
 -- Where the next unit decides: a choice and an optional part, by whether their first unit is there.
-use Prim.Native.Nat.{ℕ, _-_, _≤_, _<_}
+use Prim.Native.Nat.{ℕ, _≤_, _<_}
 use mathlib.Core.List.{List, [], _∷_}
 use mathlib.Core.Path.{_≡_, refl, sym, ap, _∙_}
 use mathlib.Core.Logic.{_⊎_, inl, inr}
@@ -13,6 +13,7 @@ use Rattle.format.proofs.Delimited.{Delimited, unit-alone}
 use Rattle.format.proofs.At.{Wronged, here, later, wronged, sequence-at, mapped-at}
 use Rattle.charset.specs.Bytes.{byteOf, byte, digitOf, digitByte, digit, after}
 use Rattle.charset.proofs.Units.{byte-delimited, digit-delimited}
+pub use Rattle.charset.proofs.Units.{after-other}
 
 value-other : {A X : Type 0} {v : A} {r : List ℕ} → value v r ≡ other → X
 value-other e = absurd (let z : _≡_ {A = ℕ} 0 1 = cc in omega arith)
@@ -43,10 +44,6 @@ sequence-begun f g text a rest e o =
 pub after-begun : {A : Type 0} (b : ℕ) (f : Format A) (text : List ℕ) (a : ℕ) (rest : List ℕ) → byte b .read text ≡ value a rest → after b f .read text ≡ other → ⊥
 after-begun b f text a rest e o =
     mapped-never (λ p. p .1) (sequence (byte b) (λ a. f) .read text) (sequence-begun (byte b) (λ a. f) text a rest e) o
-
-pub after-other : {A : Type 0} (b : ℕ) (f : Format A) (text : List ℕ) → byte b .read text ≡ other → after b f .read text ≡ other
-after-other {A = A} b f text e =
-    ap (λ r. first {A = ℕ × A} (first r λ a rest. second (λ v. (a, v)) rest (f .read rest)) λ p rest. value (p .1) rest) e
 
 -- A fixed byte and then a format.
 module _ {A : Type 0} (b : ℕ) (f : Format A) (s : List ℕ) (at : ℕ) where

@@ -1,4 +1,5 @@
 pub mod Open
 pub mod Begun
 pub mod Query
+pub mod ExactQuery
 pub mod QueryLaws

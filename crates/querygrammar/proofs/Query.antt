@@ -9,17 +9,17 @@ use lib.Dec.{ltb}
 use lib.ListN.{length-append}
 use native.Mathlib.Omega.{arith}
 use borrow.Author.Tests.{ltb-true, ltb-false, lt-ltb, le-ltb}
-use Rattle.format.specs.Format.{value, other, Format, first, second, sequence, optional, many, either, orElse, Absent, FollowAll}
+use Rattle.format.specs.Format.{value, other, Format, first, second, optional, many, either, orElse, Absent, FollowAll}
 use Rattle.format.proofs.Lawful.{Lawful}
 use Rattle.format.proofs.Sequence.{sequence-lawful}
-use Rattle.format.proofs.Parts.{mapped-lawful, optional-lawful, either-lawful}
+use Rattle.format.proofs.Parts.{optional-lawful, either-lawful}
 use Rattle.format.proofs.Many.{many-lawful}
 use Rattle.format.proofs.Unit.{unit-below, unit-above}
-use Rattle.format.proofs.Delimited.{Delimited, sequence-delimited, either-delimited, first-firm, solid}
+use Rattle.format.proofs.Delimited.{Delimited, Strict, sequence-strict, either-strict, sequence-firm, optional-firm, solid}
 use Rattle.charset.specs.Bytes.{digitOf, byteOf, digitByte, byte, digit, digits, after}
 use Rattle.charset.specs.Tokens.{fsw, fswNumber}
-use Rattle.charset.proofs.Units.{byte-delimited, digit-delimited, after-delimited}
-use Rattle.charset.proofs.Keys.{base-delimited}
+use Rattle.charset.proofs.Units.{byte-strict, byte-delimited, digit-strict, digit-delimited, after-strict, after-lawful}
+use Rattle.charset.proofs.Keys.{base-strict}
 use Rattle.charset.proofs.Sets.{fsw-lawful}
 use Rattle.grammar.proofs.Sign.{all-follow, absent-other, sequence-other, point-fixed}
 use Rattle.querygrammar.specs.Query.{queryBase, orAny, openDigits, keyTail, rangeEnd, rangeTail, ItemText, item, coordinate, SoughtText, signboxItem, someItems, prefixItems, HeadText, head, laterFigures, Figures, figures, variance, tail, QueryText, afterQ, query}
@@ -43,13 +43,6 @@ after-byte b f x t n = after-other b f (x ∷ t) (byte-other b x t n)
 either-other : {A B : Type 0} (f : Format A) (g : Format B) (text : List ℕ) → f .read text ≡ other → g .read text ≡ other → either f g .read text ≡ other
 either-other f g text p q = ap (λ r. orElse r (g .read text)) p ∙ ap (orElse other) q
 
-after-lawful : {A : Type 0} (b : ℕ) (f : Format A) → Lawful 1 f → Lawful 1 (after b f)
-after-lawful b f l =
-    mapped-lawful 1 (sequence (byte b) λ a. f) (λ p. p .1) (λ v. (b, v)) (f .Valid) (sequence-lawful 1 (byte b) (λ a. f) (byte-delimited b .lawful) λ a ok. l)
-    (λ p ok. ok .1)
-    (λ p ok. let e : b ≡ p .0 = omega (arith, ok .0 .0, ok .0 .1) in λ i. (e i, p .1))
-    (λ v ok. ((omega arith, omega arith), ok)) (λ v ok. refl)
-
 -- a letter is no digit
 letter-digit : (x : ℕ) → 58 ≤ x → x < 97 → digitOf x ≡ 16
 unfolding digitOf
@@ -65,30 +58,42 @@ digit-other lo hi x t e a b =
 
 -- ITEMS
 
-pub query-base-delimited : Delimited 1 queryBase
-query-base-delimited = base-delimited 0x100 0x38b (omega arith) (omega arith)
+query-base-strict : Strict 1 queryBase
+query-base-strict = base-strict 0x100 0x38b (omega arith) (omega arith)
 
-pub any-delimited : (hi : ℕ) → hi ≤ 15 → Delimited 1 (orAny hi)
-any-delimited hi k = either-delimited 1 (digit 0 hi) (byte 117) (digit-delimited 0 hi (omega arith) k) (byte-delimited 117) is-u
+pub query-base-delimited : Delimited 1 queryBase
+query-base-delimited = query-base-strict .delimited
+
+any-strict : (hi : ℕ) → hi ≤ 15 → Strict 1 (orAny hi)
+any-strict hi k = either-strict 1 (digit 0 hi) (byte 117) (digit-strict 0 hi (omega arith) k) (byte-strict 117) is-u
   where
     is-u : (b : ℕ) (rest : List ℕ) → byte 117 .Valid b → digit 0 hi .read (byte 117 .write b ++ rest) ≡ other
     is-u b rest ok =
         let e : b ≡ 117 = omega (arith, ok .0, ok .1) in
         digit-other 0 hi b rest (ap digitOf e ∙ u-digit) (omega arith) k
 
-pub open-delimited : Delimited 1 openDigits
-open-delimited = sequence-delimited 1 (orAny 5) (λ f. orAny 15) (any-delimited 5 (omega arith)) λ f ok. any-delimited 15 (omega arith)
+pub any-delimited : (hi : ℕ) → hi ≤ 15 → Delimited 1 (orAny hi)
+any-delimited hi k = any-strict hi k .delimited
+
+open-strict : Strict 1 openDigits
+open-strict = sequence-strict 1 (orAny 5) (λ f. orAny 15) (any-strict 5 (omega arith)) λ f ok. any-strict 15 (omega arith)
+
+key-strict : Strict 1 keyTail
+key-strict = sequence-strict 1 queryBase (λ b. openDigits) query-base-strict λ b ok. open-strict
 
 pub key-delimited : Delimited 1 keyTail
-key-delimited = sequence-delimited 1 queryBase (λ b. openDigits) query-base-delimited λ b ok. open-delimited
+key-delimited = key-strict .delimited
 
-pub range-delimited : Delimited 1 rangeTail
-range-delimited = sequence-delimited 1 queryBase (λ b. rangeEnd) query-base-delimited λ b ok. after-delimited 116 queryBase query-base-delimited
+range-strict : Strict 1 rangeTail
+range-strict = sequence-strict 1 queryBase (λ b. rangeEnd) query-base-strict λ b ok. after-strict 116 queryBase query-base-strict
+
+pub item-strict : Strict 1 item
+item-strict =
+    either-strict 1 (after 83 keyTail) (after 82 rangeTail) (after-strict 83 keyTail key-strict) (after-strict 82 rangeTail range-strict)
+    λ v rest ok. after-byte 83 keyTail 82 (rangeTail .write v ++ rest) (λ e. omega arith)
 
 pub item-delimited : Delimited 1 item
-item-delimited =
-    either-delimited 1 (after 83 keyTail) (after 82 rangeTail) (after-delimited 83 keyTail key-delimited) (after-delimited 82 rangeTail range-delimited)
-    λ v rest ok. after-byte 83 keyTail 82 (rangeTail .write v ++ rest) (λ e. omega arith)
+item-delimited = item-strict .delimited
 
 pub items-lawful : Lawful 1 (many item)
 items-lawful = many-lawful 1 item (item-delimited .lawful) (solid 1 item item-delimited)
@@ -98,14 +103,11 @@ coordinate-delimited = point-fixed fsw fsw-lawful .delimited
 
 pub signbox-item-open : Open 1 signboxItem
 signbox-item-open = record {
-  lawful = sequence-lawful 1 item (λ i. optional coordinate) (item-delimited .lawful) λ i ok. more;
+  lawful = sequence-lawful 1 item (λ i. optional coordinate) (item-delimited .lawful) λ i ok. optional-lawful 1 coordinate (coordinate-delimited .lawful);
   solid = λ v ok. omega (arith, length-append (item .write (v .0)) (optional coordinate .write (v .1)), solid 1 item item-delimited (v .0) (ok .0));
   empty = ap (λ r. first r λ a rest. second (λ b. (a, b)) rest (optional coordinate .read rest)) (item-delimited .empty);
-  firm = λ text rest e. first-firm 1 item (λ i. optional coordinate) item-delimited (λ i ok. more) text rest (item .read text) refl (item-delimited .lawful .says text) e;
+  firm = sequence-firm 1 item (λ i. optional coordinate) item-delimited λ i ok. optional-firm coordinate (coordinate-delimited .firm);
 }
-  where
-    more : Lawful 1 (optional coordinate)
-    more = optional-lawful 1 coordinate (coordinate-delimited .lawful)
 
 pub signbox-items-lawful : Lawful 1 (many signboxItem)
 signbox-items-lawful = many-lawful 1 signboxItem (signbox-item-open .lawful) (signbox-item-open .solid)
@@ -115,10 +117,10 @@ signbox-items-lawful = many-lawful 1 signboxItem (signbox-item-open .lawful) (si
 pub figure-delimited : Delimited 1 (digit 0 9)
 figure-delimited = digit-delimited 0 9 (omega arith) (omega arith)
 
-pub later-lawful : Lawful 1 laterFigures
+later-lawful : Lawful 1 laterFigures
 later-lawful = sequence-lawful 1 (digit 0 9) (λ b. optional (digit 0 9)) (figure-delimited .lawful) λ b ok. optional-lawful 1 (digit 0 9) (figure-delimited .lawful)
 
-pub figures-lawful : Lawful 1 figures
+figures-lawful : Lawful 1 figures
 figures-lawful = sequence-lawful 1 (digit 0 9) (λ a. optional laterFigures) (figure-delimited .lawful) λ a ok. optional-lawful 1 laterFigures later-lawful
 
 pub some-lawful : Lawful 1 someItems

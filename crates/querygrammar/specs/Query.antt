@@ -1,13 +1,14 @@
 -- Document 01, "A query": how a query is written in FSW form, and what it means.
-use Prim.Native.Nat.{ℕ, _+_, _*_}
+use Prim.Native.Nat.{ℕ, _+_, _*_, _≤_}
 use Prim.Native.Char.{code}
 use mathlib.Core.List.{List, [], _∷_, map}
 use mathlib.Core.Logic.{_⊎_, inl, inr}
 use mathlib.Core.Option.{Option, none, some}
-use Rattle.format.specs.Format.{Format, sequence, either, optional, many}
+use Rattle.format.specs.Format.{Format, All, Any, sequence, either, optional, many}
+use Rattle.format.specs.Numeral.{Range}
 use Rattle.charset.specs.Bytes.{byte, digit, after}
 use Rattle.charset.specs.Tokens.{fsw, base, lastPunctuation}
-use Rattle.grammar.specs.Sign.{point}
+use Rattle.grammar.specs.Sign.{Number, point}
 
 -- HOW A QUERY IS WRITTEN
 
@@ -156,3 +157,18 @@ abbrev pub kindOf : Prefix → ℕ
 kindOf free = 0
 kindOf present = 1
 kindOf (begins items) = 2
+
+-- what holds of every query that is read
+abbrev pub Base : ℕ → Type 0
+Base = Range 0x100 lastPunctuation
+
+abbrev pub ValidItem : Item → Type 0
+ValidItem (keyItem base fill rotation) = Base base × (Any (λ f. f ≤ 5) fill × Any (λ r. r ≤ 15) rotation)
+ValidItem (rangeItem from to) = Base from × Base to
+
+abbrev pub ValidSought : Sought → Type 0
+ValidSought s = ValidItem (s .item) × Any (λ p. Number (p .0) × Number (p .1)) (s .coordinate)
+
+pub record ValidQuery (q : Query) : Type 0 where
+  pub prefix : All ValidItem (itemsOf (q .prefix))
+  pub items : All ValidSought (q .items)

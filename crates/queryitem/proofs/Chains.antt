@@ -2,7 +2,9 @@
 use Prim.Native.Nat.{ℕ, _+_}
 use mathlib.Core.List.{List, [], _∷_}
 use mathlib.Core.Path.{_≡_, refl, sym, ap, _∙_}
+use mathlib.Core.Bool.{Bool}
 use mathlib.Core.Logic.{inl, inr}
+use lib.ListN.{length}
 use native.Mathlib.Omega.{arith}
 use Rattle.format.specs.Format.{Format}
 use Rattle.format.specs.Located.{Located, found, wrongAt, cut, locate, andThen, onFound}
@@ -17,7 +19,8 @@ use Rattle.querygrammar.specs.Query.{queryBase}
 use Rattle.queryitem.specs.declared.reading.Numbers.{Numbers}
 use Rattle.queryitem.specs.declared.reading.Piece.{Piece}
 use Rattle.queryitem.specs.declared.reading.Piece.the-variants.{Found, Wrong, Short}
-use Rattle.queryitem.specs.Pieces.{failedAs, toldPiece, pieceAt}
+use Rattle.queryitem.specs.Pieces.{failedAs, toldPiece, pieceAt, sort, resultOf, ofLocated, soughtAt}
+use Rattle.queryitem.specs.Numbers.{numbersOf}
 
 -- where l fails, q fails alike
 pub record Carries {A B : Type 0} (l : Located A) (q : Located B) : Type 0 where
@@ -76,6 +79,17 @@ piece-is f numbers g others s at i to r e same q = q ∙ go (locate g s i) ∙ a
     go (found c j) = ap (λ n. Found n j) (sym (same c))
     go (wrongAt p) = refl
     go cut = refl
+
+-- what an answer comes to
+told-result : (size : ℕ) (l : Located Numbers) → resultOf size (toldPiece l) ≡ ofLocated size l
+told-result size (found n next) = refl
+told-result size (wrongAt p) = refl
+told-result size cut = refl
+
+pub piece-sought : (boxed t : Bool) (s : List ℕ) (at : ℕ) (r : Piece) → boxed ≡ t → r ≡ pieceAt (sort t .format) (λ a. numbersOf (sort t .sought a)) s at
+    → resultOf (length s) r ≡ soughtAt (sort boxed) s at
+unfolding soughtAt pieceAt
+piece-sought boxed t s at r e q = rw e (ap (resultOf (length s)) q ∙ told-result (length s) (onFound (λ a. numbersOf (sort t .sought a)) (locate (sort t .format) s at)))
 
 -- a byte that was told, and a base
 pub byte-there : (b : ℕ) (s : List ℕ) (at a : ℕ) (t : Token) → t ≡ tokenAt (byte b) s at → t ≡ token.Value a → locate (byte b) s at ≡ found a (at + 1)

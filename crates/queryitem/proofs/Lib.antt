@@ -1,3 +1,4 @@
 pub mod Chains
 pub mod Keys
 pub mod Coordinates
+pub mod Rows

@@ -1,15 +1,18 @@
--- What a function that reads an item, or a part of one, at an offset of a text answers.
+-- What a function that reads an item, or a part of one, at an offset of a text answers, and what each answer comes to.
 use Prim.Native.Nat.{ℕ, _+_}
 use mathlib.Core.List.{List}
 use mathlib.Core.Bool.{Bool, true, false}
 use mathlib.Core.Logic.{_⊎_, inl, inr}
 use mathlib.Core.Option.{Option, none, some}
 use lib.Dec.{eqb}
+use lib.ListN.{length}
 use Rattle.format.specs.Format.{Format, choose}
 use Rattle.format.specs.Located.{Located, found, wrongAt, cut, locate, onFound}
 use Rattle.token.specs.declared.reading.Token.{Token}
 use Rattle.token.specs.declared.reading.Token.the-variants as token
 use Rattle.token.specs.Token.{told}
+use Rattle.token.specs.Refusal.{textWrong, textShort}
+use Rattle.token.specs.Result.{Result, refusal, done}
 use Rattle.querygrammar.specs.Query.{orAny, ItemText, item, signboxItem, Sought, itemOf, soughtOf}
 use Rattle.queryitem.specs.declared.reading.Numbers.{Numbers}
 use Rattle.queryitem.specs.declared.reading.Piece.{Piece}
@@ -57,5 +60,17 @@ abbrev pub sort : Bool → Sort
 sort true = record { Says = _; format = signboxItem; sought = soughtOf }
 sort false = record { Says = ItemText; format = item; sought = λ i. bareItem (itemOf i) }
 
-unfoldable pub soughtAt : Sort → List ℕ → ℕ → Piece
-soughtAt k s at = pieceAt (k .format) (λ a. numbersOf (k .sought a)) s at
+-- WHAT IT COMES TO (document 01, "Refusal numbers"), in a text of size bytes: a value and the offset after it, 1 or 2
+
+abbrev pub resultOf : ℕ → Piece → Result (Numbers × ℕ)
+resultOf size (Found n next) = done (n, next)
+resultOf size (Wrong p) = refusal textWrong p
+resultOf size Short = refusal textShort size
+
+abbrev pub ofLocated : {A : Type 0} → ℕ → Located A → Result (A × ℕ)
+ofLocated size (found a next) = done (a, next)
+ofLocated size (wrongAt p) = refusal textWrong p
+ofLocated size cut = refusal textShort size
+
+unfoldable pub soughtAt : Sort → List ℕ → ℕ → Result (Numbers × ℕ)
+soughtAt k s at = ofLocated (length s) (onFound (λ a. numbersOf (k .sought a)) (locate (k .format) s at))

@@ -6,7 +6,7 @@ ghost use mathlib.Core.Logic.{inl, inr};
 ghost use Rattle.format.specs.Format.{optional};
 ghost use Rattle.querygrammar.specs.Query.{keyItem, rangeItem, itemOf, soughtOf, keyTail, rangeText, item, coordinate, signboxItem};
 ghost use Rattle.queryitem.specs.Numbers.{turnOf, bare, numbersOf};
-ghost use Rattle.queryitem.specs.Pieces.{given, openAt, failedAs, pieceAt, placed, sort, soughtAt};
+ghost use Rattle.queryitem.specs.Pieces.{given, openAt, failedAs, pieceAt, placed, sort, resultOf, soughtAt};
 use charset::Charset;
 use token::reading::Token;
 
@@ -208,7 +208,7 @@ fn signbox_item_at(s: &[u8], at: usize) -> Piece
 // An item of the signbox, or one of the prefix.
 pub fn sought_at(s: &[u8], at: usize, boxed: bool) -> Piece
     requires { ⌜ at ≤ length (now s) ⌝ }
-    ensures { λ r. ⌜ r ≡ soughtAt (sort boxed) (now (s .entry)) at ⌝ }
+    ensures { λ r. ⌜ resultOf (length (now (s .entry))) r ≡ soughtAt (sort boxed) (now (s .entry)) at ⌝ }
 {
     if boxed {
         return signbox_item_at(s, at);

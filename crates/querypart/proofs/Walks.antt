@@ -1,31 +1,35 @@
 -- The loop over items of the signbox or of the prefix: one law for each way on or out.
-use Prim.Native.Nat.{ℕ, _+_, _-_, _*_, _≤_, _<_}
-use mathlib.Core.List.{List, [], _∷_, _++_}
+use Prim.Native.Nat.{ℕ, suc, _+_, _*_, _≤_, _<_}
+use mathlib.Core.List.{List, [], _∷_, _++_, append-nil, map, map-append}
 use mathlib.Core.Path.{_≡_, refl, sym, ap, _∙_}
 use mathlib.Core.Bool.{Bool, true, false}
 use mathlib.Core.Logic.{inl, inr}
 use mathlib.Core.Option.{Option, none, some}
 use lib.Dec.{ltb}
-use lib.ListN.{length, set as setAt, length-append}
+use lib.ListN.{length, set, length-append, length-map}
+use lib.Seq.{sets, length-sets}
 use native.Mathlib.Omega.{arith}
 use borrow.Author.Tests.{ne-eqb, lt-ltb, le-ltb, ltb-true, ltb-false}
 use Rattle.format.specs.Format.{Format, choose, many, writeAll}
 use Rattle.format.specs.Located.{Located, found, wrongAt, cut, locate, onFound}
 use Rattle.format.proofs.At.{Got}
 use Rattle.format.proofs.Loop.{Walk, walk-start}
-use Rattle.reader.specs.Signs.{zeros}
-use Rattle.reader.proofs.Filling.{padded-none, put-more, held-length}
-use Rattle.querygrammar.specs.Query.{Item, keyItem, ItemText, item, openOf, itemOf}
+use Rattle.token.specs.Refusal.{textWrong, textShort}
+use Rattle.token.specs.Result.{refusal, done}
+use Rattle.token.proofs.Checks.{refusal-done}
+use Rattle.querygrammar.specs.Query.{Item, keyItem, Sought, ItemText, item, openOf, itemOf}
 use Rattle.querygrammar.proofs.Open.{Open, delimited-open, open-got, open-on, open-stop, open-end, open-bad, open-cut}
 use Rattle.querygrammar.proofs.Query.{item-delimited, signbox-item-open}
 use Rattle.queryitem.specs.declared.reading.Numbers.{Numbers}
 use Rattle.queryitem.specs.declared.reading.Piece.{Piece}
 use Rattle.queryitem.specs.declared.reading.Piece.the-variants.{Found, Wrong, Short}
 use Rattle.queryitem.specs.Numbers.{firstCode, lowest, highest, numbersOf}
-use Rattle.queryitem.specs.Pieces.{toldPiece, pieceAt, Sort, sort, soughtAt}
+use Rattle.queryitem.specs.Words.{wordCount, rowWords, rowsWords}
+use Rattle.queryitem.specs.Pieces.{sort, resultOf, ofLocated, soughtAt}
+use Rattle.queryitem.proofs.Rows.{rows-append, rows-size}
 use Rattle.querypart.specs.declared.items.Count.{Count}
-use Rattle.querypart.specs.Ranges.{reversed, firstReversed}
-use Rattle.querypart.specs.Inner.{orZero, orEarlier, noted, countOf, Held, HeldIn, ItemsIn}
+use Rattle.querypart.specs.Ranges.{reversed, spotsFrom, firstReversed}
+use Rattle.querypart.specs.Inner.{orZero, orEarlier, noted, countOf, numbersRow, keptRow, ItemsIn}
 
 -- THE ORDER OF RANGES
 
@@ -67,15 +71,15 @@ module _ {A : Type 0} (f : Format A) (of : A → Item) where
   none-go at false = refl
 
   more-go : (at : ℕ) (n : List ℕ) (l : List A) (a : A) → 1 ≤ at
-      → (orZero (firstReversed f of (at + length n) (l ++ (a ∷ []))) ≡ orEarlier (orZero (firstReversed f of (at + length n) l)) (here (reversed (of a)) (at + length n + length (writeAll f l))))
-      → (t : Bool) → orZero (choose t (some at) (firstReversed f of (at + length n) (l ++ (a ∷ []))))
-      ≡ orEarlier (orZero (choose t (some at) (firstReversed f of (at + length n) l))) (here (reversed (of a)) (at + length (n ++ writeAll f l)))
+      → (orZero (firstReversed (spotsFrom f of (at + length n) (l ++ (a ∷ [])))) ≡ orEarlier (orZero (firstReversed (spotsFrom f of (at + length n) l))) (here (reversed (of a)) (at + length n + length (writeAll f l))))
+      → (t : Bool) → orZero (choose t (some at) (firstReversed (spotsFrom f of (at + length n) (l ++ (a ∷ [])))))
+      ≡ orEarlier (orZero (choose t (some at) (firstReversed (spotsFrom f of (at + length n) l)))) (here (reversed (of a)) (at + length (n ++ writeAll f l)))
   more-go at n l a h e true = sym (earlier-some at (here (reversed (of a)) (at + length (n ++ writeAll f l))) h)
   more-go at n l a h e false =
-      e ∙ ap (λ i. orEarlier (orZero (firstReversed f of (at + length n) l)) (here (reversed (of a)) i)) (let q = length-append n (writeAll f l) in omega arith)
+      e ∙ ap (λ i. orEarlier (orZero (firstReversed (spotsFrom f of (at + length n) l))) (here (reversed (of a)) i)) (let q = length-append n (writeAll f l) in omega arith)
 
   first-more : (at : ℕ) (l : List A) (a : A) → 1 ≤ at
-      → orZero (firstReversed f of at (l ++ (a ∷ []))) ≡ orEarlier (orZero (firstReversed f of at l)) (here (reversed (of a)) (at + length (writeAll f l)))
+      → orZero (firstReversed (spotsFrom f of at (l ++ (a ∷ [])))) ≡ orEarlier (orZero (firstReversed (spotsFrom f of at l))) (here (reversed (of a)) (at + length (writeAll f l)))
   first-more at [] a h = none-go at (reversed (of a)) ∙ sym (earlier-none (here (reversed (of a)) (at + 0)))
   first-more at (b ∷ l) a h = more-go at (f .write b) l a h (first-more (at + length (f .write b)) l a (omega arith)) (reversed (of b))
 
@@ -84,11 +88,60 @@ module _ {A : Type 0} (f : Format A) (of : A → Item) where
   least-go at q h n true e = let z : at ≡ 0 = cc in omega arith
   least-go at q h n false e = n e
 
-  pub first-least : (at : ℕ) (l : List A) → 1 ≤ at → firstReversed f of at l ≡ some 0 → ⊥
+  pub first-least : (at : ℕ) (l : List A) → 1 ≤ at → firstReversed (spotsFrom f of at l) ≡ some 0 → ⊥
   first-least at [] h e = let z : _≡_ {A = ℕ} 0 1 = cc in omega arith
-  first-least at (b ∷ l) h e = least-go at (firstReversed f of (at + length (f .write b)) l) h (first-least (at + length (f .write b)) l (omega arith)) (reversed (of b)) e
+  first-least at (b ∷ l) h e = least-go at (firstReversed (spotsFrom f of (at + length (f .write b)) l)) h (first-least (at + length (f .write b)) l (omega arith)) (reversed (of b)) e
+
+-- THE ROWS
+
+pub sets-append : (xs ys l : List ℕ) (i : ℕ) → sets (sets l i xs) (i + length xs) ys ≡ sets l i (xs ++ ys)
+sets-append [] ys l i = ap (λ j. sets l j ys) (omega arith)
+sets-append (x ∷ xs) ys l i =
+    let e : i + suc (length xs) ≡ suc i + length xs = omega arith in
+    ap (λ j. sets (sets (set l i x) (suc i) xs) j ys) e ∙ sets-append xs ys (set l i x) (suc i)
+
+kept-length : (p : List ℕ) (from n : ℕ) (m : Numbers) → length (keptRow p from n m) ≡ length p
+unfolding keptRow
+kept-length p from n m = go (ltb n 32)
+  where
+    go : (t : Bool) → length (choose t (sets p (from + 6 * n) (numbersRow m)) p) ≡ length p
+    go true = length-sets p (from + 6 * n) (numbersRow m)
+    go false = refl
+
+kept-more : {A : Type 0} (sought : A → Sought) (d : List A) (a : A) (from n : ℕ) (o p : List ℕ) → n ≡ length d → n < 32 → p ≡ sets o from (rowsWords (map sought d))
+    → keptRow p from n (numbersOf (sought a)) ≡ sets o from (rowsWords (map sought (d ++ (a ∷ []))))
+unfolding keptRow
+kept-more sought d a from n o p c h e =
+    let rows = rowsWords (map sought d) in
+    let row = rowWords (sought a) in
+    let k : from + 6 * n ≡ from + length rows = omega (arith, rows-size (map sought d), length-map d sought) in
+    let more : rowsWords (map sought (d ++ (a ∷ []))) ≡ rows ++ row =
+    ap rowsWords (map-append sought d (a ∷ [])) ∙ rows-append (map sought d) (sought a ∷ []) ∙ ap (λ l. rows ++ l) (append-nil row) in
+    rw (lt-ltb n 32 h, e, k, more) (sets-append rows row o from)
+
+pub kept-row : (p : List ℕ) (from n : ℕ) (m : Numbers) → n < 32
+    → set (set (set (set (set (set p (from + 6 * n) (m .x)) (from + 6 * n + 1) (m .y)) (from + 6 * n + 2) 1) (from + 6 * n + 3) (m .lo)) (from + 6 * n + 4) (m .hi)) (from + 6 * n + 5) (m .turn)
+    ≡ keptRow p from n m
+unfolding keptRow
+kept-row p from n m h = rw (lt-ltb n 32 h) (go (from + 6 * n))
+  where
+    go : (i : ℕ) → set (set (set (set (set (set p i (m .x)) (i + 1) (m .y)) (i + 2) 1) (i + 3) (m .lo)) (i + 4) (m .hi)) (i + 5) (m .turn) ≡ sets p i (numbersRow m)
+    go i =
+        let a : i + 1 ≡ suc i = omega arith in
+        let b : i + 2 ≡ suc (suc i) = omega arith in
+        let c : i + 3 ≡ suc (suc (suc i)) = omega arith in
+        let d : i + 4 ≡ suc (suc (suc (suc i))) = omega arith in
+        let e : i + 5 ≡ suc (suc (suc (suc (suc i)))) = omega arith in
+        λ j. set (set (set (set (set (set p i (m .x)) (a j) (m .y)) (b j) 1) (c j) (m .lo)) (d j) (m .hi)) (e j) (m .turn)
+
+pub kept-not : (p : List ℕ) (from n : ℕ) (m : Numbers) → 32 ≤ n → p ≡ keptRow p from n m
+unfolding keptRow
+kept-not p from n m h = rw (le-ltb n 32 h)
 
 -- THE LOOP
+
+done-same : {A : Type 0} {a b : A} → done a ≡ done b → a ≡ b
+done-same e = cc
 
 sort-open : (boxed : Bool) → Open 1 (sort boxed .format)
 sort-open true = signbox-item-open
@@ -101,9 +154,6 @@ write-more f (b ∷ l) a =
     ∙ (let e = length-append (f .write b) (writeAll f l) in omega arith)
 
 module _ (boxed : Bool) where
-  abbrev K : Sort
-  K = sort boxed
-
   abbrev f : Format (sort boxed .Says)
   f = sort boxed .format
 
@@ -113,28 +163,20 @@ module _ (boxed : Bool) where
   abbrev num : sort boxed .Says → Numbers
   num a = numbersOf (sort boxed .sought a)
 
-  pub record ItemsInv (s : List ℕ) (at n i first : ℕ) (lo hi turn xs ys : List ℕ) : Type 0 where
+  pub record ItemsInv (s : List ℕ) (at from n i first : ℕ) (o p : List ℕ) : Type 0 where
     pub done : List (sort boxed .Says)
     pub least : 1 ≤ at
     pub walk : Walk (sort boxed .format) s at i done
     pub count : n ≡ length done
     pub few : n ≤ i
     pub offset : i ≡ at + length (writeAll (sort boxed .format) done)
-    pub noticed : first ≡ orZero (firstReversed (sort boxed .format) (λ a. sort boxed .sought a .item) at done)
-    pub held : Held (λ a. numbersOf (sort boxed .sought a)) done lo hi turn xs ys
+    pub noticed : first ≡ orZero (firstReversed (spotsFrom (sort boxed .format) (λ a. sort boxed .sought a .item) at done))
+    pub size : length p ≡ wordCount
+    pub held : n ≤ 32 → p ≡ sets o from (rowsWords (map (sort boxed .sought) done))
 
-  pub items-start : (s : List ℕ) (at : ℕ) (lo hi turn xs ys : List ℕ) → 1 ≤ at → at ≤ length s → lo ≡ zeros 32 → hi ≡ zeros 32 → turn ≡ zeros 32 → xs ≡ zeros 32 → ys ≡ zeros 32
-      → ItemsInv s at 0 at 0 lo hi turn xs ys
-  items-start s at lo hi turn xs ys l h a b c d e = record {
-    done = [];
-    least = l;
-    walk = walk-start f s at h;
-    count = refl;
-    few = omega arith;
-    offset = omega arith;
-    noticed = refl;
-    held = record { lows = a ∙ padded-none 32; highs = b ∙ padded-none 32; turns = c ∙ padded-none 32; x-held = d ∙ padded-none 32; y-held = e ∙ padded-none 32 };
-  }
+  pub items-start : (s : List ℕ) (at from : ℕ) (o : List ℕ) → 1 ≤ at → at ≤ length s → length o ≡ wordCount → ItemsInv s at from 0 at 0 o o
+  items-start s at from o l h z =
+      record { done = []; least = l; walk = walk-start f s at h; count = refl; few = omega arith; offset = omega arith; noticed = refl; size = z; held = λ n. refl }
 
   -- what is known of an item that was found
   pub record Sighted (s : List ℕ) (i : ℕ) (m : Numbers) (next : ℕ) : Type 0 where
@@ -142,51 +184,38 @@ module _ (boxed : Bool) where
     pub is : locate (sort boxed .format) s i ≡ found says next
     pub means : m ≡ numbersOf (sort boxed .sought says)
 
-  sighted-go : (s : List ℕ) (i : ℕ) (m : Numbers) (next : ℕ) (l : Located (sort boxed .Says)) → locate f s i ≡ l → toldPiece (onFound num l) ≡ Found m next → Sighted s i m next
+  -- what an answer comes to says what was located
+  located : (s : List ℕ) (i : ℕ) (r : Piece) → resultOf (length s) r ≡ soughtAt (sort boxed) s i → resultOf (length s) r ≡ ofLocated (length s) (onFound num (locate f s i))
+  unfolding soughtAt
+  located s i r e = e
+
+  sighted-go : (s : List ℕ) (i : ℕ) (m : Numbers) (next : ℕ) (l : Located (sort boxed .Says)) → locate f s i ≡ l → done (m, next) ≡ ofLocated (length s) (onFound num l) → Sighted s i m next
   sighted-go s i m next (found a j) e q =
-      let x : num a ≡ m = cc in let y : j ≡ next = cc in
-      record { says = a; is = e ∙ ap (found a) y; means = sym x }
-  sighted-go s i m next (wrongAt p) e q = absurd (let z : _≡_ {A = ℕ} 0 1 = cc in omega arith)
-  sighted-go s i m next cut e q = absurd (let z : _≡_ {A = ℕ} 0 1 = cc in omega arith)
+      let x = done-same q in
+      record { says = a; is = e ∙ ap (λ k. found a (k .1)) (sym x); means = ap (λ k. k .0) x }
+  sighted-go s i m next (wrongAt p) e q = refusal-done textWrong p (sym q)
+  sighted-go s i m next cut e q = refusal-done textShort (length s) (sym q)
 
-  pub sighted : (s : List ℕ) (i : ℕ) (m : Numbers) (next : ℕ) (r : Piece) → r ≡ soughtAt (sort boxed) s i → r ≡ Found m next → Sighted s i m next
-  unfolding soughtAt pieceAt
-  sighted s i m next r e q = sighted-go s i m next (locate f s i) refl (sym e ∙ q)
+  pub sighted : (s : List ℕ) (i : ℕ) (m : Numbers) (next : ℕ) (r : Piece) → resultOf (length s) r ≡ soughtAt (sort boxed) s i → r ≡ Found m next → Sighted s i m next
+  sighted s i m next r e q = sighted-go s i m next (locate f s i) refl (sym (ap (resultOf (length s)) q) ∙ located s i r e)
 
-  wrong-go : (l : Located (sort boxed .Says)) (p : ℕ) → toldPiece (onFound num l) ≡ Wrong p → l ≡ wrongAt p
-  wrong-go (found a j) p q = absurd (let z : _≡_ {A = ℕ} 0 1 = cc in omega arith)
-  wrong-go (wrongAt r) p q = let x : r ≡ p = cc in ap wrongAt x
-  wrong-go cut p q = absurd (let z : _≡_ {A = ℕ} 0 1 = cc in omega arith)
+  wrong-go : (size p : ℕ) (l : Located (sort boxed .Says)) → refusal textWrong p ≡ ofLocated size (onFound num l) → l ≡ wrongAt p
+  wrong-go size p (found a j) q = refusal-done textWrong p q
+  wrong-go size p (wrongAt r) q = let x : r ≡ p = cc in ap wrongAt x
+  wrong-go size p cut q = absurd (let z : _≡_ {A = ℕ} 1 2 = cc in omega arith)
 
-  wrong-there : (s : List ℕ) (i p : ℕ) (r : Piece) → r ≡ soughtAt (sort boxed) s i → r ≡ Wrong p → locate f s i ≡ wrongAt p
-  unfolding soughtAt pieceAt
-  wrong-there s i p r e q = wrong-go (locate f s i) p (sym e ∙ q)
+  wrong-there : (s : List ℕ) (i p : ℕ) (r : Piece) → resultOf (length s) r ≡ soughtAt (sort boxed) s i → r ≡ Wrong p → locate f s i ≡ wrongAt p
+  wrong-there s i p r e q = wrong-go (length s) p (locate f s i) (sym (ap (resultOf (length s)) q) ∙ located s i r e)
 
-  short-go : (l : Located (sort boxed .Says)) → toldPiece (onFound num l) ≡ Short → l ≡ cut
-  short-go (found a j) q = absurd (let z : _≡_ {A = ℕ} 0 1 = cc in omega arith)
-  short-go (wrongAt r) q = absurd (let z : _≡_ {A = ℕ} 0 1 = cc in omega arith)
-  short-go cut q = refl
+  short-go : (size : ℕ) (l : Located (sort boxed .Says)) → refusal textShort size ≡ ofLocated size (onFound num l) → l ≡ cut
+  short-go size (found a j) q = refusal-done textShort size q
+  short-go size (wrongAt r) q = absurd (let z : _≡_ {A = ℕ} 2 1 = cc in omega arith)
+  short-go size cut q = refl
 
-  short-there : (s : List ℕ) (i : ℕ) (r : Piece) → r ≡ soughtAt (sort boxed) s i → r ≡ Short → locate f s i ≡ cut
-  unfolding soughtAt pieceAt
-  short-there s i r e q = short-go (locate f s i) (sym e ∙ q)
+  short-there : (s : List ℕ) (i : ℕ) (r : Piece) → resultOf (length s) r ≡ soughtAt (sort boxed) s i → r ≡ Short → locate f s i ≡ cut
+  short-there s i r e q = short-go (length s) (locate f s i) (sym (ap (resultOf (length s)) q) ∙ located s i r e)
 
-  module _ (s : List ℕ) (at n i first : ℕ) (lo hi turn xs ys : List ℕ) (v : ItemsInv s at n i first lo hi turn xs ys) where
-    pub lows-length : length lo ≡ 32
-    lows-length = held-length 32 (λ a. num a .lo) (v .done) lo (v .held .lows)
-
-    pub highs-length : length hi ≡ 32
-    highs-length = held-length 32 (λ a. num a .hi) (v .done) hi (v .held .highs)
-
-    pub turns-length : length turn ≡ 32
-    turns-length = held-length 32 (λ a. num a .turn) (v .done) turn (v .held .turns)
-
-    pub xs-length : length xs ≡ 32
-    xs-length = held-length 32 (λ a. num a .x) (v .done) xs (v .held .x-held)
-
-    pub ys-length : length ys ≡ 32
-    ys-length = held-length 32 (λ a. num a .y) (v .done) ys (v .held .y-held)
-
+  module _ (s : List ℕ) (at from n i first : ℕ) (o p : List ℕ) (v : ItemsInv s at from n i first o p) where
     module _ (m : Numbers) (next : ℕ) (k : Sighted s i m next) where
       there : Got f s i (k .says) next
       there = open-got 1 f (sort-open boxed) s at i (v .done) (v .walk) (k .says) next (k .is)
@@ -200,9 +229,8 @@ module _ (boxed : Bool) where
           (λ j. choose (ltb (k .means j .hi) (k .means j .lo)) i 0)
           ∙ ap (λ t. choose t i 0) (sort-order boxed (k .says) (there .valid))
 
-      pub items-on : (l h t x y : List ℕ) (now : ℕ) → l ≡ setAt lo n (m .lo) → h ≡ setAt hi n (m .hi) → t ≡ setAt turn n (m .turn) → x ≡ setAt xs n (m .x) → y ≡ setAt ys n (m .y)
-          → now ≡ orEarlier first (noted m i) → ItemsInv s at (n + 1) next now l h t x y
-      items-on l h t x y now el eh et ex ey w =
+      pub items-on : (q : List ℕ) (now : ℕ) → q ≡ keptRow p from n m → now ≡ orEarlier first (noted m i) → ItemsInv s at from (n + 1) next now o q
+      items-on q now e w =
           let a = k .says in
           let d = v .done in
           let c = v .count in
@@ -216,36 +244,41 @@ module _ (boxed : Bool) where
             offset = let p = v .offset in omega (arith, g .size, write-more f d a);
             noticed =
                 w ∙ (λ j. orEarlier (v .noticed j) (noted m i))
-                ∙ ap (orEarlier (orZero (firstReversed f of at d))) (notices ∙ ap (λ o. choose (reversed (of a)) o 0) (v .offset))
+                ∙ ap (orEarlier (orZero (firstReversed (spotsFrom f of at d)))) (notices ∙ ap (λ o. choose (reversed (of a)) o 0) (v .offset))
                 ∙ sym (first-more f of at d a (v .least));
-            held = record {
-              lows = put-more 32 (λ a. num a .lo) d a n lo l (v .held .lows) c (el ∙ ap (λ e. setAt lo n (e .lo)) (k .means));
-              highs = put-more 32 (λ a. num a .hi) d a n hi h (v .held .highs) c (eh ∙ ap (λ e. setAt hi n (e .hi)) (k .means));
-              turns = put-more 32 (λ a. num a .turn) d a n turn t (v .held .turns) c (et ∙ ap (λ e. setAt turn n (e .turn)) (k .means));
-              x-held = put-more 32 (λ a. num a .x) d a n xs x (v .held .x-held) c (ex ∙ ap (λ e. setAt xs n (e .x)) (k .means));
-              y-held = put-more 32 (λ a. num a .y) d a n ys y (v .held .y-held) c (ey ∙ ap (λ e. setAt ys n (e .y)) (k .means));
-            };
+            size = ap length e ∙ kept-length p from n m ∙ v .size;
+            held = λ h.
+                let less : n < 32 = omega arith in
+                e ∙ ap (λ m. keptRow p from n m) (k .means)
+                ∙ kept-more (sort boxed .sought) d a from n o p c less (v .held (omega arith));
           }
 
     -- the ways out
-    items-as : (r : Count) (l : Located (List (sort boxed .Says))) → locate (many f) s at ≡ l → r ≡ countOf (sort boxed) (length s) at l → HeldIn (sort boxed) l lo hi turn xs ys
-        → ItemsIn boxed s at r lo hi turn xs ys
-    items-as r l e c h = record { is = c ∙ ap (countOf (sort boxed) (length s) at) (sym e); holds = rw e h }
+    items-as : (r : Count) (l : Located (List (sort boxed .Says))) → locate (many f) s at ≡ l → r ≡ countOf (sort boxed) at (ofLocated (length s) l)
+        → ((d : List (sort boxed .Says)) (next : ℕ) → l ≡ found d next → length d ≤ 32 → p ≡ sets o from (rowsWords (map (sort boxed .sought) d)))
+        → ItemsIn boxed s at from r o p
+    items-as r l e c h = record { is = c ∙ ap (λ l. countOf (sort boxed) at (ofLocated (length s) l)) (sym e); size = v .size; holds = λ d next q. h d next (sym e ∙ q) }
 
-    all-found : (c : Count) → locate (many f) s at ≡ found (v .done) i → c ≡ record { number = 0; place = i; count = n; reversed = first } → ItemsIn boxed s at c lo hi turn xs ys
-    all-found c e y = items-as c (found (v .done) i) e (y ∙ (λ j. record { number = 0; place = i; count = v .count j; reversed = v .noticed j })) (v .held)
+    all-found : (c : Count) → locate (many f) s at ≡ found (v .done) i → c ≡ record { number = 0; place = i; count = n; reversed = first } → ItemsIn boxed s at from c o p
+    all-found c e y =
+        items-as c (found (v .done) i) e (y ∙ (λ j. record { number = 0; place = i; count = v .count j; reversed = v .noticed j }))
+        (λ d next q h. let same : v .done ≡ d = cc in rw same at (v .held (let c = v .count in omega (arith, ap length same))))
 
-    pub items-stop : (p : ℕ) (r : Piece) (c : Count) → r ≡ soughtAt (sort boxed) s i → r ≡ Wrong p → p ≡ i → c ≡ record { number = 0; place = i; count = n; reversed = first }
-        → ItemsIn boxed s at c lo hi turn xs ys
-    items-stop p r c e q z y = all-found c (open-stop 1 f (sort-open boxed) s at i (v .done) (v .walk) (wrong-there s i p r e q ∙ ap wrongAt z)) y
+    pub items-stop : (q : ℕ) (r : Piece) (c : Count) → resultOf (length s) r ≡ soughtAt (sort boxed) s i → r ≡ Wrong q → q ≡ i
+        → c ≡ record { number = 0; place = i; count = n; reversed = first } → ItemsIn boxed s at from c o p
+    items-stop q r c e w z y = all-found c (open-stop 1 f (sort-open boxed) s at i (v .done) (v .walk) (wrong-there s i q r e w ∙ ap wrongAt z)) y
 
-    pub items-end : length s ≤ i → (c : Count) → c ≡ record { number = 0; place = i; count = n; reversed = first } → ItemsIn boxed s at c lo hi turn xs ys
+    pub items-end : length s ≤ i → (c : Count) → c ≡ record { number = 0; place = i; count = n; reversed = first } → ItemsIn boxed s at from c o p
     items-end h c y = all-found c (open-end 1 f (sort-open boxed) s at i (v .done) (v .walk) h) y
 
-    pub items-bad : (p : ℕ) (r : Piece) (c : Count) → r ≡ soughtAt (sort boxed) s i → r ≡ Wrong p → (p ≡ i → ⊥) → c ≡ record { number = 1; place = p; count = 0; reversed = 0 }
-        → ItemsIn boxed s at c lo hi turn xs ys
-    items-bad p r c e q z y = items-as c (wrongAt p) (open-bad 1 f (sort-open boxed) s at i (v .done) (v .walk) p (wrong-there s i p r e q) z) y tt
+    pub items-bad : (q : ℕ) (r : Piece) (c : Count) → resultOf (length s) r ≡ soughtAt (sort boxed) s i → r ≡ Wrong q → (q ≡ i → ⊥)
+        → c ≡ record { number = textWrong; place = q; count = 0; reversed = 0 } → ItemsIn boxed s at from c o p
+    items-bad q r c e w z y =
+        items-as c (wrongAt q) (open-bad 1 f (sort-open boxed) s at i (v .done) (v .walk) q (wrong-there s i q r e w) z) y
+        (λ d next x. absurd (let z : _≡_ {A = ℕ} 0 1 = cc in omega arith))
 
-    pub items-cut : i < length s → (r : Piece) (c : Count) → r ≡ soughtAt (sort boxed) s i → r ≡ Short → c ≡ record { number = 2; place = length s; count = 0; reversed = 0 }
-        → ItemsIn boxed s at c lo hi turn xs ys
-    items-cut h r c e q y = items-as c cut (open-cut 1 f (sort-open boxed) s at i (v .done) (v .walk) h (short-there s i r e q)) y tt
+    pub items-cut : i < length s → (r : Piece) (c : Count) → resultOf (length s) r ≡ soughtAt (sort boxed) s i → r ≡ Short
+        → c ≡ record { number = textShort; place = length s; count = 0; reversed = 0 } → ItemsIn boxed s at from c o p
+    items-cut h r c e w y =
+        items-as c cut (open-cut 1 f (sort-open boxed) s at i (v .done) (v .walk) h (short-there s i r e w)) y
+        (λ d next x. absurd (let z : _≡_ {A = ℕ} 0 1 = cc in omega arith))

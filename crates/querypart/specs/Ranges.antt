@@ -1,4 +1,4 @@
--- The order of ranges: which item is reversed, and where the first that is stands (document 01, "A query").
+-- Where items stand, and the order of ranges (document 01, "A query").
 use Prim.Native.Nat.{ℕ, _+_}
 use mathlib.Core.List.{List, [], _∷_}
 use mathlib.Core.Bool.{Bool, false}
@@ -12,7 +12,15 @@ abbrev pub reversed : Item → Bool
 reversed (keyItem base fill rotation) = false
 reversed (rangeItem from to) = ltb to from
 
--- the offset of the first that is reversed, of those that are written from an offset on
-abbrev pub firstReversed : {A : Type 0} → Format A → (A → Item) → ℕ → List A → Option ℕ
-firstReversed f of at [] = none
-firstReversed f of at (a ∷ l) = choose (reversed (of a)) (some at) (firstReversed f of (at + length (f .write a)) l)
+-- an item and the offset of its first byte; those of items that are written from an offset on
+abbrev pub Spot : Type 0
+Spot = ℕ × Item
+
+abbrev pub spotsFrom : {A : Type 0} → Format A → (A → Item) → ℕ → List A → List Spot
+spotsFrom f of at [] = []
+spotsFrom f of at (a ∷ l) = (at, of a) ∷ spotsFrom f of (at + length (f .write a)) l
+
+-- the offset of the first that is reversed
+abbrev pub firstReversed : List Spot → Option ℕ
+firstReversed [] = none
+firstReversed (spot ∷ l) = choose (reversed (spot .1)) (some (spot .0)) (firstReversed l)

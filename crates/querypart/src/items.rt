@@ -1,17 +1,19 @@
-// Items of the signbox or of the prefix, into lent arrays: every item is read and counted, and the first 32 are kept.
+// Items of the signbox or of the prefix, into the words of a query: every item is read and counted, and the first 32 are kept.
 ghost use mathlib.Core.Path.{_≡_};
-ghost use Prim.Native.Nat.{_≤_};
-ghost use lib.ListN.{length, set as setAt};
-ghost use Rattle.reader.specs.Signs.{zeros};
-ghost use Rattle.querypart.specs.Inner.{orEarlier, noted, ItemsIn};
+ghost use Prim.Native.Nat.{_+_, _≤_};
+ghost use lib.ListN.{length};
+ghost use Rattle.queryitem.specs.Words.{wordCount};
+ghost use Rattle.querypart.specs.Inner.{orEarlier, noted, keptRow, ItemsIn};
 use queryitem::reading::Numbers;
 use queryitem::reading::Piece;
-use reader::arrays::put32;
+use queryitem::words::MOST_ITEMS;
+use queryitem::words::ROW;
+use queryitem::words::WORDS;
 use token::refusal::DONE;
 use token::refusal::TEXT_SHORT;
 use token::refusal::TEXT_WRONG;
 
-// How many items were read into lent arrays, the offset after them, and that of the first reversed range or 0;
+// How many items were read, the offset after them, and that of the first reversed range or 0;
 // or the refusal.
 pub struct Count {
     pub number: u8,
@@ -20,7 +22,7 @@ pub struct Count {
     pub reversed: usize,
 }
 
-fn counted(place: usize, count: usize, reversed: usize) -> Count
+pub fn counted(place: usize, count: usize, reversed: usize) -> Count
     ensures { λ r. ⌜ r ≡ record { number = 0; place = place; count = count; reversed = reversed } ⌝ }
 {
     Count {
@@ -31,7 +33,7 @@ fn counted(place: usize, count: usize, reversed: usize) -> Count
     }
 }
 
-fn no_count(number: u8, place: usize) -> Count
+pub fn no_count(number: u8, place: usize) -> Count
     ensures { λ r. ⌜ r ≡ record { number = number; place = place; count = 0; reversed = 0 } ⌝ }
 {
     Count {
@@ -62,43 +64,27 @@ fn note(earlier: usize, item: Numbers, at: usize) -> usize
     or_earlier(earlier, 0)
 }
 
-// The numbers of an item, where there is room for them.
-fn put_item(
-    lo: &mut [u16; 32],
-    hi: &mut [u16; 32],
-    turn: &mut [u16; 32],
-    xs: &mut [u16; 32],
-    ys: &mut [u16; 32],
-    n: usize,
-    item: Numbers,
-)
-    requires { ⌜ (length (now lo) ≡ 32) × (length (now hi) ≡ 32) × (length (now turn) ≡ 32) × (length (now xs) ≡ 32) × (length (now ys) ≡ 32) ⌝ }
-    ensures low { λ r. ⌜ now (lo .exit) ≡ setAt (now (lo .entry)) n (item .lo) ⌝ }
-    ensures high { λ r. ⌜ now (hi .exit) ≡ setAt (now (hi .entry)) n (item .hi) ⌝ }
-    ensures turned { λ r. ⌜ now (turn .exit) ≡ setAt (now (turn .entry)) n (item .turn) ⌝ }
-    ensures across { λ r. ⌜ now (xs .exit) ≡ setAt (now (xs .entry)) n (item .x) ⌝ }
-    ensures down { λ r. ⌜ now (ys .exit) ≡ setAt (now (ys .entry)) n (item .y) ⌝ }
+// The row of an item, as row n of those that start at an offset, if it is one of the first MOST_ITEMS.
+fn keep_row(words: &mut [u16; WORDS], from: usize, n: usize, item: Numbers)
+    requires { ⌜ (length (now words) ≡ wordCount) × (from + 192 ≤ wordCount) ⌝ }
+    ensures { λ r. ⌜ now (words .exit) ≡ keptRow (now (words .entry)) from n item ⌝ }
 {
-    put32(lo, n, item.lo);
-    put32(hi, n, item.hi);
-    put32(turn, n, item.turn);
-    put32(xs, n, item.x);
-    put32(ys, n, item.y);
+    if n < MOST_ITEMS {
+        let at = from + ROW * n;
+        words[at] = item.x;
+        words[at + 1] = item.y;
+        words[at + 2] = 1;
+        words[at + 3] = item.lo;
+        words[at + 4] = item.hi;
+        words[at + 5] = item.turn;
+    }
 }
 
-// Items of the signbox or of the prefix as far as they go: all are counted, and the first 32 kept.
-pub fn items_into(
-    s: &[u8],
-    at: usize,
-    boxed: bool,
-    lo: &mut [u16; 32],
-    hi: &mut [u16; 32],
-    turn: &mut [u16; 32],
-    xs: &mut [u16; 32],
-    ys: &mut [u16; 32],
-) -> Count
-    requires { ⌜ (1 ≤ at) × (at ≤ length (now s)) × (now lo ≡ zeros 32) × (now hi ≡ zeros 32) × (now turn ≡ zeros 32) × (now xs ≡ zeros 32) × (now ys ≡ zeros 32) ⌝ }
-    ensures { λ r. ⌜ ItemsIn boxed (now (s .entry)) at r (now (lo .exit)) (now (hi .exit)) (now (turn .exit)) (now (xs .exit)) (now (ys .exit)) ⌝ }
+// Items of the signbox or of the prefix as far as they go: all are counted, and the rows of the first MOST_ITEMS
+// kept from an offset of the words on.
+pub fn items_into(s: &[u8], at: usize, boxed: bool, words: &mut [u16; WORDS], from: usize) -> Count
+    requires { ⌜ (1 ≤ at) × (at ≤ length (now s)) × (length (now words) ≡ wordCount) × (from + 192 ≤ wordCount) ⌝ }
+    ensures { λ r. ⌜ ItemsIn boxed (now (s .entry)) at from r (now (words .entry)) (now (words .exit)) ⌝ }
 {
     let mut n: usize = 0;
     let mut i = at;
@@ -106,7 +92,7 @@ pub fn items_into(
     while i < s.len() {
         match queryitem::reading::sought_at(s, i, boxed) {
             Piece::Found(item, next) => {
-                put_item(lo, hi, turn, xs, ys, n, item);
+                keep_row(words, from, n, item);
                 reversed = note(reversed, item, i);
                 n += 1;
                 i = next;

@@ -1,5 +1,7 @@
 pub mod Filling
+pub mod Counts
 pub mod Loops
-pub mod Texts
+pub mod Signboxes
 pub mod Signs
+pub mod Texts
 pub mod Limits

@@ -3,9 +3,9 @@ ghost use mathlib.Core.Path.{_≡_};
 ghost use Prim.Native.Nat.{_≤_};
 ghost use lib.ListN.{length, set as setAt};
 ghost use Rattle.reader.specs.Signs.{zeros};
-ghost use Rattle.reader.specs.Inner.{PrefixIn, SymbolsIn, SignboxIn, Begun, TextInto, ReadInto, noHead, limited};
+ghost use Rattle.reader.specs.Inner.{PrefixIn, SymbolsIn, SignboxIn, Begun, SignInto, TextInto, ReadInto, noHead, limited};
 use charset::Charset;
-use fast::fsw::Placed;
+use part::reading::Placed;
 use token::reading::Token;
 use token::refusal::DONE;
 use token::refusal::PREFIX_LONG;
@@ -116,7 +116,8 @@ fn symbols_into(
     counted(DONE, i, n)
 }
 
-// What a reading says beside the arrays that it was lent.
+// What a reading says beside the arrays that it was lent. The place is that of a refusal; of what was read it is the offset
+// where that ends, and 0 once the end of the text is judged.
 pub struct Head {
     pub number: u8,
     pub place: usize,
@@ -141,7 +142,7 @@ fn no_head(number: u8, place: usize) -> Head
     }
 }
 
-// The signbox at an offset, up to the end of the text, after a prefix of so many symbols.
+// The signbox at an offset, after a prefix of so many symbols.
 fn signbox_into(
     set: Charset,
     s: &[u8],
@@ -163,16 +164,9 @@ fn signbox_into(
             if number != DONE {
                 return no_head(number, place);
             }
-            let left = token::reading::left_over(set, s.len(), place);
-            if left == TEXT_WRONG {
-                return no_head(TEXT_WRONG, place);
-            }
-            if left == TEXT_SHORT {
-                return no_head(TEXT_SHORT, s.len());
-            }
             Head {
                 number: DONE,
-                place: 0,
+                place: place,
                 marker: m,
                 max_x: x,
                 max_y: y,
@@ -195,9 +189,9 @@ fn prefixed_into(
     ys: &mut [u16; 64],
 ) -> Head
     requires { ⌜ Begun set (now s) × (now prefix ≡ zeros 32) × (now codes ≡ zeros 64) × (now xs ≡ zeros 64) × (now ys ≡ zeros 64) ⌝ }
-    ensures { λ r. ⌜ TextInto set (now (s .entry)) r (now (prefix .exit)) (now (codes .exit)) (now (xs .exit)) (now (ys .exit)) ⌝ }
+    ensures { λ r. ⌜ SignInto set (now (s .entry)) r (now (prefix .exit)) (now (codes .exit)) (now (xs .exit)) (now (ys .exit)) ⌝ }
 {
-    let size = part::reading::marker_size(set);
+    let size = token::reading::marker_size(set);
     let t = prefix_into(set, s, size, prefix);
     let number = t.number;
     let place = t.place;
@@ -214,7 +208,26 @@ fn prefixed_into(
     no_head(TEXT_SHORT, s.len())
 }
 
-// The sign that a text says, whatever the counts.
+// The sign at the start of a text, whatever the counts and whatever follows.
+fn sign_into(
+    set: Charset,
+    s: &[u8],
+    prefix: &mut [u16; 32],
+    codes: &mut [u16; 64],
+    xs: &mut [u16; 64],
+    ys: &mut [u16; 64],
+) -> Head
+    requires { ⌜ (now prefix ≡ zeros 32) × (now codes ≡ zeros 64) × (now xs ≡ zeros 64) × (now ys ≡ zeros 64) ⌝ }
+    ensures { λ r. ⌜ SignInto set (now (s .entry)) r (now (prefix .exit)) (now (codes .exit)) (now (xs .exit)) (now (ys .exit)) ⌝ }
+{
+    match token::reading::marker_at(set, s, 0, 0, 0) {
+        Token::Value(_) => prefixed_into(set, s, prefix, codes, xs, ys),
+        Token::Wrong(_) => signbox_into(set, s, 0, 0, codes, xs, ys),
+        Token::Short => no_head(TEXT_SHORT, s.len()),
+    }
+}
+
+// The same where nothing follows the sign.
 fn text_into(
     set: Charset,
     s: &[u8],
@@ -226,10 +239,27 @@ fn text_into(
     requires { ⌜ (now prefix ≡ zeros 32) × (now codes ≡ zeros 64) × (now xs ≡ zeros 64) × (now ys ≡ zeros 64) ⌝ }
     ensures { λ r. ⌜ TextInto set (now (s .entry)) r (now (prefix .exit)) (now (codes .exit)) (now (xs .exit)) (now (ys .exit)) ⌝ }
 {
-    match token::reading::marker_at(set, s, 0, 0, 0) {
-        Token::Value(_) => prefixed_into(set, s, prefix, codes, xs, ys),
-        Token::Wrong(_) => signbox_into(set, s, 0, 0, codes, xs, ys),
-        Token::Short => no_head(TEXT_SHORT, s.len()),
+    let h = sign_into(set, s, prefix, codes, xs, ys);
+    let number = h.number;
+    let place = h.place;
+    if number != DONE {
+        return h;
+    }
+    let left = token::reading::left_over(set, s.len(), place);
+    if left == TEXT_WRONG {
+        return no_head(TEXT_WRONG, place);
+    }
+    if left == TEXT_SHORT {
+        return no_head(TEXT_SHORT, s.len());
+    }
+    Head {
+        number: DONE,
+        place: 0,
+        marker: h.marker,
+        max_x: h.max_x,
+        max_y: h.max_y,
+        prefix_count: h.prefix_count,
+        symbol_count: h.symbol_count,
     }
 }
 

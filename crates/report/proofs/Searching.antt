@@ -1,27 +1,29 @@
 -- What a search comes to in each case.
 use Prim.Native.Nat.{ℕ, _≤_, _<_}
 use mathlib.Core.Path.{_≡_, refl, sym, ap, _∙_}
-use mathlib.Core.List.{List, _++_}
+use mathlib.Core.List.{List, [], _++_, append-nil}
 use mathlib.Core.Bool.{Bool, true, false, not, _&&_, and-eq-true-iff}
 use native.Mathlib.Omega.{arith}
 use borrow.Author.Tests.{leb-true, le-ltb, le-leb, lt-leb, eq-eqb, ne-eqb, not-true, not-false}
-use lib.Dec.{eqb, ltb, leb}
-use lib.ListN.{length, take, drop, length-append, length-take}
-use lib.Seq.{take-append-seam, take-length}
-use Rattle.format.specs.Format.{choose, keep}
-use Rattle.charset.specs.declared.Charset.{Charset}
+use lib.Dec.{leb}
+use lib.ListN.{length, take, drop, length-take}
+use lib.Seq.{take-append-seam}
+use Rattle.format.specs.Format.{keep}
 use Rattle.charset.specs.declared.Charset.the-variants.{Fsw}
-use Rattle.token.specs.Refusal.{listWrong, lineWrong}
-use Rattle.token.specs.Result.{Result, refusal, done, output, check}
-use Rattle.lines.specs.Lines.{lines, ended, fewLines}
+use Rattle.token.specs.Result.{Result, refusal, done, onDone, inRoom, output}
+use Rattle.lines.specs.Lines.{lines}
 use Rattle.run.specs.declared.Narrowed.{Narrowed}
-use Rattle.run.specs.Narrowing.{firstBad, listed, keptBy, narrowing, narrowedBy, answerOf, listAfter, filled}
+use Rattle.run.specs.Narrowing.{rising, narrowing, answerOf, listAfter, filled}
 use Rattle.run.proofs.Keeping.{keep-length}
 use Rattle.run.proofs.Rising.{upTo-length}
-use Rattle.entries.specs.Entries.{entriesOf, firstWrong}
+use Rattle.entries.specs.Entries.{entriesOf}
+use Rattle.books.specs.Book.{bookOf, Sound}
+use Rattle.books.proofs.Forms.{plain-step}
+use Rattle.books.proofs.Fills.{sound-good, opening-laws}
 use Rattle.dictionary.specs.declared.Opened.{Opened}
 use Rattle.dictionary.specs.Opening.{opening, opened}
-use Rattle.dictionary.specs.Narrowing.{narrowed}
+use Rattle.dictionary.specs.Narrowing.{testOf, narrowed}
+use Rattle.dictionary.proofs.Openings.{opened-from, opening-is}
 use Rattle.report.specs.Report.{within, refusalText, foundText, narrowedText, openedText, searchText}
 
 -- ---- the three sizes
@@ -46,51 +48,7 @@ module _ (query dict : List ℕ) where
       let a = and-eq-true-iff (leb (length query) 1024) (leb (length dict) 49152 && leb (length (lines dict)) 1024) .0 h in
       leb-true _ _ (and-eq-true-iff (leb (length dict) 49152) (leb (length (lines dict)) 1024) .0 (a .1) .1)
 
--- ---- opening
-
-opening-cases : (set : Charset) (dict : List ℕ) (P : Result (List ℕ) → Type 0)
-    → ((number place : ℕ) → 0 < number → P (refusal number place)) → P (done (entriesOf dict)) → P (opening set dict)
-unfolding opening
-opening-cases set dict P refused accepted = go (ended dict) (fewLines dict) (eqb (firstWrong set dict (entriesOf dict)) 0)
-  where
-    go : (a b c : Bool) → P (check a 12 0 (check b 14 0 (check c 13 (firstWrong set dict (entriesOf dict)) (done (entriesOf dict)))))
-    go false b c = refused 12 0 (omega arith)
-    go true false c = refused 14 0 (omega arith)
-    go true true false = refused 13 (firstWrong set dict (entriesOf dict)) (omega arith)
-    go true true true = accepted
-
--- ---- narrowing
-
-module _ (test : Result (ℕ → Bool)) (dictionary : ℕ) (valid : List ℕ → Bool) (readable : ℕ → Bool) where
-  -- what lies after the entries changes nothing
-  kept-same : (es rest : List ℕ) → keptBy test dictionary valid readable (es ++ rest) (length es) ≡ keptBy test dictionary valid readable es (length es)
-  unfolding keptBy listed
-  kept-same es rest = go test
-    where
-      room : length es ≤ length (es ++ rest)
-      room = omega (arith, length-append es rest)
-
-      go : (t : Result (ℕ → Bool)) → keptBy t dictionary valid readable (es ++ rest) (length es) ≡ keptBy t dictionary valid readable es (length es)
-      go (refusal number place) = refl
-      go (done p) = rw (take-append-seam es rest, take-length es, le-leb _ _ room, le-leb (length es) (length es) (omega arith))
-
-  kept-most : (list : List ℕ) (n : ℕ) → narrowedBy test dictionary valid readable list n .0 .kept ≤ n
-  unfolding narrowedBy keptBy answerOf
-  kept-most list n = go test
-    where
-      few : (p : ℕ → Bool) → length (keep p (take n list)) ≤ n
-      few p = omega (arith, keep-length p (take n list), length-take n list)
-
-      last : (p : ℕ → Bool) (w : ℕ) (a b c : Bool)
-          → answerOf n (choose a (refusal dictionary 0) (choose b (refusal listWrong 0) (choose c (refusal lineWrong w) (done (keep p (take n list)))))) .kept ≤ n
-      last p w true b c = omega arith
-      last p w false true c = omega arith
-      last p w false false true = omega arith
-      last p w false false false = few p
-
-      go : (t : Result (ℕ → Bool)) → narrowedBy t dictionary valid readable list n .0 .kept ≤ n
-      go (refusal number place) = omega arith
-      go (done p) = last p (firstBad readable (take n list)) (ltb 0 dictionary) (not (listed valid list n)) (ltb 0 (firstBad readable (take n list)))
+-- ---- the text of what was narrowed
 
 pub found-text : (n : ℕ) (list kept : List ℕ) → narrowedText n (narrowing list n (done kept)) ≡ foundText n kept
 unfolding narrowedText answerOf listAfter filled
@@ -113,12 +71,41 @@ done-text n r list z = rw (eq-eqb (r .number) 0 z)
 pub take-few : {k m : ℕ} (list : List ℕ) → k ≤ m → length (take k list) ≤ m
 take-few {k} list h = omega (arith, length-take k list)
 
+kept-most : (k : List ℕ) (query : Result (ℕ → Bool)) → answerOf (length k) (onDone (λ test. keep test k) query) .kept ≤ length k
+unfolding answerOf
+kept-most k (refusal number place) = omega arith
+kept-most k (done test) = keep-length test k
+
+-- ---- a dictionary that opens
+
+module _ (query dict : List ℕ) (s : Sound (bookOf (Fsw, dict))) where
+  abbrev pub keptOf : Result (List ℕ)
+  keptOf = onDone (λ test. keep test (entriesOf dict)) (testOf Fsw dict query)
+
+  pub narrowed-is : (rest : List ℕ)
+      → narrowed Fsw dict (entriesOf dict ++ rest) (length (entriesOf dict)) query ≡ narrowing (entriesOf dict ++ rest) (length (entriesOf dict)) keptOf
+  unfolding narrowed
+  narrowed-is rest = plain-step rising (bookOf (Fsw, dict)) (entriesOf dict) rest (sound-good (bookOf (Fsw, dict)) s) (testOf Fsw dict query)
+
+  pub opened-text : (list : List ℕ)
+      → openedText query dict (opening Fsw dict) ≡ narrowedText (length (entriesOf dict)) (narrowing list (length (entriesOf dict)) keptOf)
+  unfolding openedText
+  opened-text list =
+      rw (opening-is Fsw dict s)
+      (ap (λ l. narrowedText (length (entriesOf dict)) (narrowed Fsw dict l (length (entriesOf dict)) query)) (sym (append-nil (entriesOf dict)))
+      ∙ ap (narrowedText (length (entriesOf dict))) (narrowed-is [])
+      ∙ kept-text _ _ _ _)
+
 -- ---- the search
 
 module _ (query dict : List ℕ) where
   pub too-large : (t : Bool) → t ≡ within query dict → not t ≡ true → refusalText 14 0 ≡ searchText query dict
   unfolding searchText
   too-large t e h = rw (← e, not-true t h)
+
+  pub small-text : within query dict ≡ true → searchText query dict ≡ openedText query dict (opening Fsw dict)
+  unfolding searchText
+  small-text h = rw h
 
   module _ (t : Bool) (e : t ≡ within query dict) (h : not t ≡ false) where
     fits : within query dict ≡ true
@@ -127,57 +114,42 @@ module _ (query dict : List ℕ) where
     pub few-lines : length (lines dict) ≤ 1024
     few-lines = within-lines query dict fits
 
-    text-is : searchText query dict ≡ openedText query dict (opening Fsw dict)
-    unfolding searchText
-    text-is = rw fits
-
     module _ (list : List ℕ) (m : length list ≡ 1024) (o : Opened) (f : o ≡ opened list (opening Fsw dict)) where
-      roomy : ltb (length list) (length (entriesOf dict)) ≡ false
-      roomy = le-ltb (length list) (length (entriesOf dict)) (omega (arith, few-lines, upTo-length (length (lines dict))))
-
-      all-opened : opened list (done (entriesOf dict)) ≡ record { number = 0; place = 0; lines = length (entriesOf dict) }
-      unfolding opened
-      all-opened = rw roomy
-
-      Refused : Result (List ℕ) → Type 0
-      Refused r = o ≡ opened list r → refusalText (o .number) (o .place) ≡ openedText query dict r
-
       pub not-opened : (o .number ≡ 0 → ⊥) → refusalText (o .number) (o .place) ≡ searchText query dict
-      unfolding Refused opened openedText
-      not-opened z =
-          opening-cases Fsw dict Refused (λ number place p g. rw g) (λ g. absurd (z (ap (λ a. a .number) (g ∙ all-opened)))) f ∙ sym text-is
-
-      Accepted : Result (List ℕ) → Type 0
-      Accepted r =
-          o ≡ opened list r → (o .lines ≡ length (entriesOf dict)) × (r ≡ done (entriesOf dict)) × (output list r ≡ entriesOf dict ++ drop (length (entriesOf dict)) list)
+      unfolding opened openedText opening
+      not-opened z = go (opening Fsw dict) refl f ∙ sym (small-text fits)
+        where
+          go : (r : Result (List ℕ)) → opening Fsw dict ≡ r → o ≡ opened list r → refusalText (o .number) (o .place) ≡ openedText query dict r
+          go (refusal number place) e g = rw g
+          go (done k) e g =
+              let all : entriesOf dict ≡ k = opening-laws .sound (bookOf (Fsw, dict)) k e .1 in
+              let roomy = le-ltb (length list) (length k) (omega (arith, few-lines, upTo-length (length (lines dict)), ap length all)) in
+              absurd (z (ap (λ a. a .number) g ∙ rw roomy))
 
       module _ (z : o .number ≡ 0) where
-        accepted : Accepted (opening Fsw dict)
-        unfolding Accepted opened output
-        accepted =
-            opening-cases Fsw dict Accepted
-            (λ number place p g. absurd (omega (arith, sym (ap (λ a. a .number) g) ∙ z)))
-            (λ g. (ap (λ a. a .lines) (g ∙ all-opened), refl, rw roomy))
+        from : Sound (bookOf (Fsw, dict)) × (inRoom (length list) (opening Fsw dict) ≡ done (entriesOf dict))
+        from = opened-from Fsw dict list (sym (ap (λ a. a .number) f) ∙ z)
 
-        line-count : o .lines ≤ 1024
-        unfolding Accepted
-        line-count = omega (arith, accepted f .0, upTo-length (length (lines dict)), few-lines)
+        told : o .lines ≡ length (entriesOf dict)
+        unfolding opened
+        told = ap (λ a. a .lines) f ∙ rw (from .1)
 
         module _ (l : List ℕ) (k : l ≡ output list (opening Fsw dict)) (r : Narrowed) (after : List ℕ) (g : (r, after) ≡ narrowed Fsw dict l (o .lines) query) where
-          kept-few : r .kept ≤ o .lines
-          unfolding narrowed
-          kept-few = rw (ap (λ p. p .0 .kept) g) (kept-most _ _ _ _ l (o .lines))
+          abbrev memory : List ℕ
+          memory = entriesOf dict ++ drop (length (entriesOf dict)) list
+
+          ended : (r, after) ≡ narrowing memory (length (entriesOf dict)) (keptOf query dict (from .0))
+          unfolding output
+          ended = g ∙ rw (k, from .1, told) (narrowed-is query dict (from .0) (drop (length (entriesOf dict)) list))
+
+          kept-few : r .kept ≤ length (entriesOf dict)
+          kept-few = rw (ap (λ p. p .0 .kept) ended) (kept-most (entriesOf dict) (testOf Fsw dict query))
 
           pub counts : (o .lines ≤ 1024) × (r .kept ≤ 1024)
-          counts = (line-count, omega (arith, line-count, kept-few))
+          counts = (omega (arith, told, upTo-length (length (lines dict)), few-lines), omega (arith, kept-few, upTo-length (length (lines dict)), few-lines))
 
           text-of : narrowedText (o .lines) (r, after) ≡ searchText query dict
-          unfolding Accepted narrowed narrowedBy openedText
-          text-of =
-              let a = accepted f in
-              ap (narrowedText (o .lines)) g
-              ∙ rw (a .0, k, a .2, kept-same _ _ _ _ (entriesOf dict)) (kept-text _ _ _ _)
-              ∙ sym (text-is ∙ ap (openedText query dict) (a .1))
+          text-of = rw (ended, told) (sym (small-text fits ∙ opened-text query dict (from .0) memory))
 
           pub not-narrowed : (r .number ≡ 0 → ⊥) → refusalText (r .number) (r .place) ≡ searchText query dict
           not-narrowed y = refused-text _ _ _ y ∙ text-of

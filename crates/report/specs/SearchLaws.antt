@@ -1,9 +1,9 @@
--- What a search over a dictionary that opens comes to, from the query and the lines alone.
+-- What a search over a dictionary that opens comes to, from the query and the lines alone; and how much of its input it takes to answer.
 use Prim.Native.Nat.{ℕ}
 use mathlib.Core.Path.{_≡_}
 use mathlib.Core.List.{List}
 use mathlib.Core.Bool.{true}
-use lib.ListN.{length}
+use lib.ListN.{length, take}
 use Rattle.format.specs.Format.{keep}
 use Rattle.charset.specs.declared.Charset.the-variants.{Fsw}
 use Rattle.token.specs.Result.{refusal, done}
@@ -13,7 +13,7 @@ use Rattle.lines.specs.Lines.{lines}
 use Rattle.entries.specs.Entries.{entriesOf}
 use Rattle.entries.specs.Judging.{meets}
 use Rattle.dictionary.specs.Opening.{opening}
-use Rattle.report.specs.Report.{within, refusalText, foundText, searchText}
+use Rattle.report.specs.Report.{within, refusalText, foundText, searchText, outputOf}
 
 pub record SearchLaws : Type 0 where
   -- a query that is accepted finds the entries whose signs meet it
@@ -22,3 +22,5 @@ pub record SearchLaws : Type 0 where
   -- a query that is refused gives its own refusal, and there is no other
   pub refused : (query dict : List ℕ) (number place : ℕ) → within query dict ≡ true → opening Fsw dict ≡ done (entriesOf dict) → queryOf query ≡ refusal number place
       → searchText query dict ≡ refusalText number place
+  -- the first 50,178 bytes of any input are answered as all of it: one more than the largest that is within the sizes
+  pub enough : (input : List ℕ) → outputOf (take 50178 input) ≡ outputOf input

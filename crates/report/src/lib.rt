@@ -54,7 +54,7 @@ fn put_found(out: &mut [u8], lines: usize, kept: &[u16]) -> usize
 
 // The list and the flags are working memory.
 fn search(query: &[u8], dict: &[u8], list: &mut [u16], flags: &mut [u8], out: &mut [u8]) -> usize
-    requires { ⌜ (length (now list) ≡ 1024) × (length (now flags) ≡ 1024) × (length (now out) ≡ 12320) ⌝ }
+    requires { ⌜ (length (now list) ≡ 1024) × (length (now flags) ≡ 1025) × (length (now out) ≡ 12320) ⌝ }
     ensures { λ r. ⌜ Wrote (now (out .entry)) (now (out .exit)) 0 r (searchText (now (query .entry)) (now (dict .entry))) ⌝ }
 {
     if !is_within(query, dict) {
@@ -95,6 +95,6 @@ pub fn report(input: &[u8], out: &mut [u8; 12320]) -> usize
         start = end + 1;
     }
     let mut list = [0u16; 1024];
-    let mut flags = [0u8; 1024];
+    let mut flags = [0u8; 1025];
     search(&input[..end], &input[start..], &mut list, &mut flags, out)
 }

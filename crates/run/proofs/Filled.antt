@@ -40,9 +40,6 @@ module _ (n : ℕ) (k : List ℕ) (h : length k ≤ n) where
   unfolding filled front
   filled-front rest = sym (append-assoc k (replicate (n - length k) 0) rest)
 
-  pub filled-length : (rest : List ℕ) → length (filled n k rest) ≡ n + length rest
-  filled-length rest = rw (filled-front rest) (omega (arith, length-append front rest, front-length))
-
   -- what stands at n
   pub filled-read : (e : ℕ) (rest : List ℕ) → getD (filled n k (e ∷ rest)) n 0 ≡ e
   filled-read e rest = rw (filled-front (e ∷ rest)) (getD-at front e rest 0 n front-length)

@@ -1,6 +1,6 @@
 -- Laws of `keep`.
 use Prim.Native.Nat.{suc, _≤_, zero-le}
-use mathlib.Core.Path.{_≡_, refl, ap, _∙_}
+use mathlib.Core.Path.{_≡_, refl, ap}
 use mathlib.Core.List.{List, [], _∷_}
 use mathlib.Core.Bool.{Bool, true, false, _&&_}
 use native.Mathlib.Omega.{arith}
@@ -33,13 +33,6 @@ unfolding keep
 keep-every [] = refl
 keep-every (a ∷ l) = ap (λ k. a ∷ k) (keep-every l)
 
--- tests that agree on every element keep the same
-pub keep-same : {A : Type 0} (p q : A → Bool) (l : List A) → All (λ a. p a ≡ q a) l → keep p l ≡ keep q l
-unfolding keep
-keep-same p q [] h = refl
-keep-same p q (a ∷ l) h =
-    ap (λ t. choose t (a ∷ keep p l) (keep p l)) (h .0) ∙ ap (λ k. choose (q a) (a ∷ k) k) (keep-same p q l (h .1))
-
 -- what holds of every element holds of those kept
 pub keep-all : {A : Type 0} (P : A → Type 0) (test : A → Bool) (l : List A) → All P l → All P (keep test l)
 unfolding keep
@@ -49,11 +42,3 @@ keep-all P test (a ∷ l) h = go (test a) (keep-all P test l (h .1))
     go : (t : Bool) → All P (keep test l) → All P (choose t (a ∷ keep test l) (keep test l))
     go true k = (h .0, k)
     go false k = k
-
-pub all-of : {A : Type 0} (P : A → Type 0) → ((a : A) → P a) → (l : List A) → All P l
-all-of P h [] = tt
-all-of P h (a ∷ l) = (h a, all-of P h l)
-
-pub all-map : {A : Type 0} (P R : A → Type 0) → ((a : A) → P a → R a) → (l : List A) → All P l → All R l
-all-map P R h [] k = tt
-all-map P R h (a ∷ l) k = (h a (k .0), all-map P R h l (k .1))

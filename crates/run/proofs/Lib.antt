@@ -3,4 +3,3 @@ pub mod Rising
 pub mod Filled
 pub mod Runs
 pub mod Calls
-pub mod Agreement

@@ -54,21 +54,17 @@ rising-keep test last count (e ∷ entries) r =
     go true a b h = rising-on last count e (keep test entries) a b ∙ h
     go false a b h = rising-lower last e count (keep test entries) (omega arith) h
 
-rising-within-over : (last count : ℕ) (entries : List ℕ) → risingOver last count entries ≡ true → All (λ e. (last < e) × (e ≤ count)) entries
-rising-within-over last count [] r = tt
-rising-within-over last count (e ∷ entries) r =
-    let p = rising-parts last count e entries r in
-    ((p .0, p .1), over (p .0) entries (rising-within-over e count entries (p .2)))
-  where
-    over : last < e → (l : List ℕ) → All (λ i. (e < i) × (i ≤ count)) l → All (λ i. (last < i) × (i ≤ count)) l
-    over h [] k = tt
-    over h (i ∷ l) k = ((omega (arith, k .0 .0), k .0 .1), over h l (k .1))
-
 -- the entries of a rising list are 1 to count
-pub rising-within : (count : ℕ) (entries : List ℕ) → rising count entries ≡ true → All (λ e. (0 < e) × (e ≤ count)) entries
-rising-within count entries r = rising-within-over 0 count entries r
+rising-within-over : (low last count : ℕ) (entries : List ℕ) → low ≤ last → risingOver last count entries ≡ true → All (λ e. (low < e) × (e ≤ count)) entries
+rising-within-over low last count [] h r = tt
+rising-within-over low last count (e ∷ entries) h r =
+    let p = rising-parts last count e entries r in
+    ((omega (arith, p .0), p .1), rising-within-over low e count entries (omega (arith, p .0)) (p .2))
 
--- and there are no more of them than count
+pub rising-within : (count : ℕ) (entries : List ℕ) → rising count entries ≡ true → All (λ e. (0 < e) × (e ≤ count)) entries
+rising-within count entries r = rising-within-over 0 0 count entries (omega arith) r
+
+-- a rising list has no more entries than count
 rising-most : (last count : ℕ) (entries : List ℕ) → last ≤ count → risingOver last count entries ≡ true → last + length entries ≤ count
 rising-most last count [] h r = omega arith
 rising-most last count (e ∷ entries) h r =
@@ -96,10 +92,6 @@ module _ (valid : List ℕ → Bool) (list : List ℕ) (n : ℕ) where
 pub listed-most : (count : ℕ) (list : List ℕ) (n : ℕ) → listed (rising count) list n ≡ true → n ≤ count
 listed-most count list n h =
     omega (arith, rising-most 0 count (take n list) (omega arith) (listed-valid (rising count) list n h), length-take-le n list (listed-room (rising count) list n h))
-
-pub listed-same : (valid valid′ : List ℕ → Bool) (list : List ℕ) (n : ℕ) → valid (take n list) ≡ valid′ (take n list) → listed valid list n ≡ listed valid′ list n
-unfolding listed
-listed-same valid valid′ list n h = rw h
 
 pub entries-length : (k n : ℕ) → length (entriesFrom k n) ≡ n
 unfolding entriesFrom
@@ -133,15 +125,6 @@ upTo-rising zero = rising-end 0 0
 upTo-rising (suc n) =
     ap (rising (suc n)) (upTo-last n) ∙ rising-more 0 n (suc n) (suc n) (upTo n) (omega arith) (omega arith) (omega arith) (upTo-rising n)
 
-module _ (readable : ℕ → Bool) (e : ℕ) (entries : List ℕ) where
-  pub bad-here : readable e ≡ false → firstBad readable (e ∷ entries) ≡ e
-  unfolding firstBad
-  bad-here h = rw h
-
-  pub bad-later : readable e ≡ true → firstBad readable (e ∷ entries) ≡ firstBad readable entries
-  unfolding firstBad
-  bad-later h = rw h
-
 -- no bad line, where all are readable, and the reverse for entries from 1
 pub none-bad : (readable : ℕ → Bool) (entries : List ℕ) → All (λ e. readable e ≡ true) entries → firstBad readable entries ≡ 0
 unfolding firstBad
@@ -158,9 +141,3 @@ all-readable readable last count (e ∷ entries) r z =
     go : (t : Bool) → readable e ≡ t → last < e → choose t (firstBad readable entries) e ≡ 0 → (firstBad readable entries ≡ 0 → All (λ e. readable e ≡ true) entries) → All (λ e. readable e ≡ true) (e ∷ entries)
     go true h a z k = (h, k z)
     go false h a z k = absurd (omega (arith, z))
-
--- the same first bad line, where the same lines are readable
-pub bad-same : (r r′ : ℕ → Bool) (entries : List ℕ) → All (λ e. r e ≡ r′ e) entries → firstBad r entries ≡ firstBad r′ entries
-unfolding firstBad
-bad-same r r′ [] h = refl
-bad-same r r′ (e ∷ entries) h = ap (λ t. choose t (firstBad r entries) e) (h .0) ∙ ap (λ n. choose (r′ e) n e) (bad-same r r′ entries (h .1))

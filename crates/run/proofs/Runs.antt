@@ -1,184 +1,156 @@
--- The claim about every run, for any form of call that refuses nothing but queries on good lists.
-use Prim.Native.Nat.{ℕ, _+_, _-_, _≤_, _<_}
+-- Demand 3 over any form of call and anything that fills the list.
+use Prim.Native.Nat.{ℕ, _+_, _-_, _≤_}
 use mathlib.Core.Path.{_≡_, refl, sym, ap, _∙_}
-use mathlib.Core.List.{List, [], _∷_, _++_, map, foldr, Perm, Perm·foldr-eq, Perm·map}
-use mathlib.Core.Bool.{Bool, true, _&&_, and-assoc, and-comm, and-true, Bool-set}
+use mathlib.Core.List.{List, [], _∷_, _++_, map, Perm, Perm·foldr-eq, Perm·map}
+use mathlib.Core.Bool.{Bool, true, _&&_, and-assoc, and-comm, and-eq-true-iff, Bool-set}
 use native.Mathlib.Omega.{arith}
 use borrow.Author.Tests.{ne-eqb}
-use lib.ListN.{length, replicate}
+use lib.ListN.{length, drop, replicate}
 use lib.Seq.{drop-append-seam}
 use Rattle.format.specs.Format.{keep}
 use Rattle.token.specs.Result.{Result, refusal, done, onDone}
+use Rattle.token.proofs.Checks.{Counted, done-counted}
 use Rattle.run.specs.declared.Narrowed.{Narrowed}
-use Rattle.run.specs.Narrowing.{answerOf, filled, listAfter, narrowing}
-use Rattle.run.specs.Run.{nextCount, answering, run, testsOf, accepted, passes, left, total, refusalOf, told, runFrom, RunClaims}
+use Rattle.run.specs.Narrowing.{answerOf, filled, listAfter}
+use Rattle.run.specs.Run.{Ended, nextCount, answering, run, total, refusalOf, told}
 use Rattle.run.proofs.Filled.{filled-whole, filled-again}
-use Rattle.run.proofs.Keeping.{keep-length, keep-keep, keep-same, keep-every, all-of}
+use Rattle.run.proofs.Keeping.{keep-length, keep-keep, keep-every}
+use Rattle.run.specs.Form.{every, asks, left, plain, Form, FormLaws, Fill, FillLaws, runOn, leftOf, Demand3}
 
--- a refusal's number is not 0
-abbrev pub Numbered : {A : Type 0} → Result A → Type 0
-Numbered (refusal number place) = 0 < number
-Numbered (done a) = Unit
+pub onDone-counted : {A C : Type 0} (to : A → C) (r : Result A) → Counted r → Counted (onDone to r)
+onDone-counted to (refusal number place) c n p e = c n p (cc)
+onDone-counted to (done a) c n p e = done-counted (to a) n p e
 
-pub done-numbered : {A B : Type 0} (to : A → B) (r : Result A) → Numbered r → Numbered (onDone to r)
-done-numbered to (refusal number place) h = h
-done-numbered to (done a) h = tt
+pub every-perm : {A : Type 0} (test : A → Bool) (l m : List A) → Perm l m → every test l ≡ every test m
+unfolding every
+every-perm {A} test l m p =
+    Perm·foldr-eq Bool-set (λ (a : A) (b : Bool). test a && b)
+    (λ x y b. sym (and-assoc (test x) (test y) b) ∙ ap (λ t. t && b) (and-comm (test x) (test y)) ∙ and-assoc (test y) (test x) b)
+    p
+    true
 
--- What a call comes to on a list whose first entries k are good.
-abbrev pub plain : Result (ℕ → Bool) → List ℕ → List ℕ → Narrowed × List ℕ
-plain query k after = narrowing (k ++ after) (length k) (onDone (λ test. keep test k) query)
-
--- A form of call for which the claim holds: what is kept of a good list is good, and on a good list only the query is refused.
-pub record Narrows {Q : Type 0} (call : List ℕ → ℕ → Q → Narrowed × List ℕ) (says : Q → Result (ℕ → Bool)) (Good : List ℕ → Type 0) : Type 0 where
-  pub numbered : (q : Q) → Numbered (says q)
-  pub keeps : (test : ℕ → Bool) (k : List ℕ) → Good k → Good (keep test k)
-  pub step : (k after : List ℕ) (q : Q) → Good k → call (k ++ after) (length k) q ≡ plain (says q) k after
-
--- the entries of k after a call
-next : Result (ℕ → Bool) → List ℕ → List ℕ
-next (refusal number place) k = k
-next (done test) k = keep test k
-
-answer : Result (ℕ → Bool) → List ℕ → Narrowed
+-- ONE CALL, by a query on good entries k
+abbrev answer : Result (ℕ → Bool) → List ℕ → Narrowed
 answer query k = answerOf (length k) (onDone (λ test. keep test k) query)
 
-next-length : (query : Result (ℕ → Bool)) (k : List ℕ) → length (next query k) ≤ length k
-unfolding next
-next-length (refusal number place) k = omega arith
-next-length (done test) k = keep-length test k
-
--- a call on entries with zeros after them up to n
-plain-filled : (query : Result (ℕ → Bool)) (n : ℕ) (k rest : List ℕ) → length k ≤ n
-    → plain query k (replicate (n - length k) 0 ++ rest) ≡ (answer query k, filled n (next query k) rest)
-unfolding next answer listAfter filled
-plain-filled (refusal number place) n k rest h = refl
-plain-filled (done test) n k rest h =
+-- with zeros after the entries up to n
+call-filled : (query : Result (ℕ → Bool)) (n : ℕ) (k rest : List ℕ) → length k ≤ n
+    → plain query k (replicate (n - length k) 0 ++ rest) ≡ (answer query k, filled n (keep (asks query) k) rest)
+unfolding listAfter filled
+call-filled (refusal number place) n k rest h = rw (keep-every k)
+call-filled (done test) n k rest h =
     rw (drop-append-seam k (replicate (n - length k) 0 ++ rest))
     (ap (λ l. (answer (done test) k, l)) (filled-again n k (keep test k) rest (keep-length test k) h))
 
-next-count : (query : Result (ℕ → Bool)) (k : List ℕ) → Numbered query → nextCount (length k) (answer query k) ≡ length (next query k)
-unfolding nextCount answer next answerOf
-next-count (refusal number place) k h = rw (ne-eqb number 0 (λ e. omega arith))
-next-count (done test) k h = refl
+call-count : (query : Result (ℕ → Bool)) (k : List ℕ) → Counted query → nextCount (length k) (answer query k) ≡ length (keep (asks query) k)
+unfolding nextCount answerOf
+call-count (refusal number place) k h = rw (ne-eqb number 0 (λ e. omega (arith, h number place refl)), keep-every k)
+call-count (done test) k h = refl
 
+call-adds : (query : Result (ℕ → Bool)) (k : List ℕ) → answer query k .dropped + length (keep (asks query) k) ≡ length k
+unfolding answerOf
+call-adds (refusal number place) k = rw (keep-every k) (omega arith)
+call-adds (done test) k = omega (arith, keep-length test k)
+
+call-told : (query : Result (ℕ → Bool)) (k : List ℕ) → (answer query k .number, answer query k .place) ≡ refusalOf query
+unfolding answerOf refusalOf
+call-told (refusal number place) k = refl
+call-told (done test) k = refl
+
+-- A RUN, by queries that say these things
 module _ {Q : Type 0} (says : Q → Result (ℕ → Bool)) where
-  -- the entries that a run leaves of k, and what its calls answer
-  survivors : List Q → List ℕ → List ℕ
-  survivors [] k = k
-  survivors (q ∷ qs) k = survivors qs (next (says q) k)
-
   trace : List Q → List ℕ → List Narrowed
   trace [] k = []
-  trace (q ∷ qs) k = answer (says q) k ∷ trace qs (next (says q) k)
+  trace (q ∷ qs) k = answer (says q) k ∷ trace qs (keep (asks (says q)) k)
 
-  trace-total : (qs : List Q) (k : List ℕ) → total (trace qs k) + length (survivors qs k) ≡ length k
-  unfolding trace survivors total answer next answerOf
-  trace-total [] k = omega arith
-  trace-total (q ∷ qs) k = go (says q) (trace-total qs (next (says q) k))
-    where
-      go : (query : Result (ℕ → Bool)) → total (trace qs (next query k)) + length (survivors qs (next query k)) ≡ length (next query k)
-          → answer query k .dropped + total (trace qs (next query k)) + length (survivors qs (next query k)) ≡ length k
-      go (refusal number place) h = omega arith
-      go (done test) h = omega (arith, keep-length test k)
+  abbrev endedSo : ℕ → List ℕ → List Q → List ℕ → Ended
+  endedSo n rest qs k = record { list = filled n (left says k qs) rest; count = length (left says k qs); answers = trace qs k }
+
+  left-none : (k : List ℕ) → left says k [] ≡ k
+  unfolding left every
+  left-none k = keep-every k
+
+  pub left-more : (q : Q) (qs : List Q) (k : List ℕ) → left says (keep (asks (says q)) k) qs ≡ left says k (q ∷ qs)
+  unfolding left every
+  left-more q qs k = keep-keep (asks (says q)) (λ e. every (λ q. asks (says q) e) qs) k
+
+  left-perm : (k : List ℕ) (qs qs′ : List Q) → Perm qs qs′ → left says k qs ≡ left says k qs′
+  unfolding left
+  left-perm k qs qs′ p = λ i. keep (λ e. every-perm (λ q. asks (says q) e) qs qs′ p i) k
+
+  trace-adds : (qs : List Q) (k : List ℕ) → total (trace qs k) + length (left says k qs) ≡ length k
+  unfolding trace total
+  trace-adds [] k = rw (left-none k) (omega arith)
+  trace-adds (q ∷ qs) k =
+      rw (← left-more q qs k) (omega (arith, trace-adds qs (keep (asks (says q)) k), call-adds (says q) k))
 
   trace-told : (qs : List Q) (k : List ℕ) → told qs (trace qs k) ≡ map (λ q. (q, refusalOf (says q))) qs
-  unfolding trace told answer answerOf refusalOf
+  unfolding trace told
   trace-told [] k = refl
-  trace-told (q ∷ qs) k =
-      ap (λ r. (q, r) ∷ told qs (trace qs (next (says q) k))) (go (says q)) ∙ ap (λ l. (q, refusalOf (says q)) ∷ l) (trace-told qs (next (says q) k))
-    where
-      go : (query : Result (ℕ → Bool)) → (answer query k .number, answer query k .place) ≡ refusalOf query
-      go (refusal number place) = refl
-      go (done test) = refl
+  trace-told (q ∷ qs) k = rw (call-told (says q) k, trace-told qs (keep (asks (says q)) k))
 
-  -- they are those that meet every accepted query
-  survivors-left : (qs : List Q) (k : List ℕ) → survivors qs k ≡ left says k qs
-  unfolding survivors left accepted passes next
-  survivors-left [] k = sym (keep-every k)
-  survivors-left (q ∷ qs) k = go (says q) (survivors-left qs (next (says q) k))
-    where
-      go : (query : Result (ℕ → Bool)) → survivors qs (next query k) ≡ keep (passes (accepted says qs)) (next query k)
-          → survivors qs (next query k) ≡ keep (passes (testsOf query (accepted says qs))) k
-      go (refusal number place) h = h
-      go (done test) h = h ∙ keep-keep test (passes (accepted says qs)) k
-
-  -- what a query says of an entry in a run: a refused one drops nothing
-  meets : ℕ → Q → Bool → Bool
-  meets e q b = passes (testsOf (says q) []) e && b
-
-  meets-swap : (e : ℕ) (q r : Q) (b : Bool) → meets e q (meets e r b) ≡ meets e r (meets e q b)
-  unfolding meets
-  meets-swap e q r b =
-      let x = passes (testsOf (says q) []) e in
-      let y = passes (testsOf (says r) []) e in
-      sym (and-assoc x y b) ∙ ap (λ t. t && b) (and-comm x y) ∙ and-assoc y x b
-
-  passes-meets : (e : ℕ) (qs : List Q) → passes (accepted says qs) e ≡ foldr (meets e) true qs
-  unfolding accepted passes meets
-  passes-meets e [] = refl
-  passes-meets e (q ∷ qs) = go (says q) (passes-meets e qs)
-    where
-      go : (query : Result (ℕ → Bool)) → passes (accepted says qs) e ≡ foldr (meets e) true qs
-          → passes (testsOf query (accepted says qs)) e ≡ (passes (testsOf query []) e && foldr (meets e) true qs)
-      go (refusal number place) h = h
-      go (done test) h = ap (λ b. test e && b) h ∙ ap (λ t. t && foldr (meets e) true qs) (sym (and-true (test e)))
-
-  left-perm : (start : List ℕ) (qs qs′ : List Q) → Perm qs qs′ → left says start qs ≡ left says start qs′
-  unfolding left
-  left-perm start qs qs′ p =
-      keep-same (passes (accepted says qs)) (passes (accepted says qs′)) start
-      (all-of (λ e. passes (accepted says qs) e ≡ passes (accepted says qs′) e)
-      (λ e. passes-meets e qs ∙ Perm·foldr-eq Bool-set (meets e) (meets-swap e) p true ∙ sym (passes-meets e qs′))
-      start)
-
-module _ {Q : Type 0} (call : List ℕ → ℕ → Q → Narrowed × List ℕ) (says : Q → Result (ℕ → Bool)) (Good : List ℕ → Type 0) (form : Narrows call says Good) where
-  next-good : (query : Result (ℕ → Bool)) (k : List ℕ) → Good k → Good (next query k)
-  unfolding next
-  next-good (refusal number place) k g = g
-  next-good (done test) k g = form .keeps test k g
-
+-- A FORM THAT KEEPS THE LAWS
+module _ {B Q : Type 0} (f : Form B Q) (l : FormLaws f) (b : B) where
   module _ (n : ℕ) (rest : List ℕ) where
-    whole : (qs : List Q) (k : List ℕ) → Good k → length k ≤ n
-        → run call qs (filled n k rest) (length k)
-        ≡ record { list = filled n (survivors says qs k) rest; count = length (survivors says qs k); answers = trace says qs k }
-    unfolding run survivors trace filled
-    whole [] k g h = refl
-    whole (q ∷ qs) k g h =
-        let j = next (says q) k in
-        let a = answer (says q) k in
-        ap (λ r. answering (r .0) (run call qs (r .1) (nextCount (length k) (r .0))))
-        (form .step k (replicate (n - length k) 0 ++ rest) q g ∙ plain-filled (says q) n k rest h)
-        ∙ ap (λ m. answering a (run call qs (filled n j rest) m)) (next-count (says q) k (form .numbered q))
-        ∙ ap (answering a) (whole qs j (next-good (says q) k g) (omega (arith, next-length (says q) k)))
+    whole : (qs : List Q) (k : List ℕ) → every (f .fits b) qs ≡ true → f .Good b k → length k ≤ n
+        → run (f .call b) qs (filled n k rest) (length k) ≡ endedSo (f .says b) n rest qs k
+    unfolding run trace every filled
+    whole [] k a g h = rw (left-none (f .says b) k)
+    whole (q ∷ qs) k a g h =
+        let w = and-eq-true-iff (f .fits b q) (every (f .fits b) qs) .0 a in
+        let s = f .says b q in
+        let j = keep (asks s) k in
+        ap (λ r. answering (r .0) (run (f .call b) qs (r .1) (nextCount (length k) (r .0))))
+        (l .step b q k (replicate (n - length k) 0 ++ rest) (w .0) g ∙ call-filled s n k rest h)
+        ∙ ap (λ m. answering (answer s k) (run (f .call b) qs (filled n j rest) m)) (call-count s k (l .counted b q))
+        ∙ ap (answering (answer s k)) (whole qs j (w .1) (l .keeps b (asks s) k g) (omega (arith, keep-length (asks s) k)))
+        ∙ ap (λ m. record { list = filled n m rest; count = length m; answers = trace (f .says b) (q ∷ qs) k }) (left-more (f .says b) q qs k)
 
-  module _ (start rest : List ℕ) (good : Good start) where
-    ends : (qs : List Q) → runFrom call start rest qs
-        ≡ record { list = filled (length start) (left says start qs) rest; count = length (left says start qs); answers = trace says qs start }
-    ends qs =
-        ap (λ m. run call qs m (length start)) (sym (filled-whole start rest))
-        ∙ whole (length start) rest qs start good (omega arith)
-        ∙ ap (λ k. record { list = filled (length start) k rest; count = length k; answers = trace says qs start }) (survivors-left says qs start)
+  pub left-good : (qs : List Q) (k : List ℕ) → f .Good b k → f .Good b (left (f .says b) k qs)
+  unfolding left
+  left-good qs k g = l .keeps b (λ e. every (λ q. asks (f .says b q) e) qs) k g
 
-    adds : (qs : List Q) → total (runFrom call start rest qs .answers) + length (left says start qs) ≡ length start
-    adds qs =
-        ap (λ r. total (r .answers) + length (left says start qs)) (ends qs)
-        ∙ ap (λ k. total (trace says qs start) + length k) (sym (survivors-left says qs start))
-        ∙ trace-total says qs start
+-- THE CLAIM
+module _ {T B Q : Type 0} (bookOf : T → B) (rewritten : T → T) (f : Form B Q) (l : FormLaws f) (g : Fill B) (m : FillLaws bookOf rewritten (f .Good) g) where
+  module _ (b : B) (list : List ℕ) (fills : g .Fills b list) where
+    abbrev k : List ℕ
+    k = g .start b
 
-    tells : (qs : List Q) → told qs (runFrom call start rest qs .answers) ≡ map (λ q. (q, refusalOf (says q))) qs
-    tells qs = ap (λ r. told qs (r .answers)) (ends qs) ∙ trace-told says qs start
+    abbrev rest : List ℕ
+    rest = drop (length k) list
 
-    pub claims : RunClaims call says start rest
-    claims =
-        record {
-          ending = λ qs. ap (λ r. r .list) (ends qs);
-          counting = λ qs. ap (λ r. r .count) (ends qs);
-          adding = adds;
-          telling = tells;
-          reordering = λ qs qs′ p.
-              let e = left-perm says start qs qs′ p in (
-                ap (λ r. r .list) (ends qs) ∙ ap (λ k. filled (length start) k rest) e ∙ sym (ap (λ r. r .list) (ends qs′)),
-                omega (arith, adds qs, adds qs′, ap length e),
-                rw (tells qs, tells qs′) (Perm·map (λ q. (q, refusalOf (says q))) p),
-              );
-        }
+    module _ (qs : List Q) (fit : every (f .fits b) qs ≡ true) where
+      ends : runOn f g b list qs ≡ endedSo (f .says b) (length k) rest qs k
+      ends =
+          rw (m .memory b list fills, m .count b list fills, ← filled-whole k rest)
+          (whole f l b (length k) rest qs k fit (m .good b list fills) (omega arith))
+
+      adds : total (runOn f g b list qs .answers) + length (leftOf f g b qs) ≡ length k
+      adds = rw ends (trace-adds (f .says b) qs k)
+
+      tells : told qs (runOn f g b list qs .answers) ≡ map (λ q. (q, refusalOf (f .says b q))) qs
+      tells = rw ends (trace-told (f .says b) qs k)
+
+    reorders : (qs reordered : List Q) → every (f .fits b) qs ≡ true → Perm qs reordered
+        → (runOn f g b list qs .list ≡ runOn f g b list reordered .list)
+        × (total (runOn f g b list qs .answers) ≡ total (runOn f g b list reordered .answers))
+        × Perm (told qs (runOn f g b list qs .answers)) (told reordered (runOn f g b list reordered .answers))
+    reorders qs reordered fit p =
+        let fit′ = sym (every-perm (f .fits b) qs reordered p) ∙ fit in
+        let e = left-perm (f .says b) k qs reordered p in (
+          rw (ends qs fit, ends reordered fit′, e),
+          omega (arith, adds qs fit, adds reordered fit′, ap length e),
+          rw (tells qs fit, tells reordered fit′) (Perm·map (λ q. (q, refusalOf (f .says b q))) p),
+        )
+
+  pub demand3 : Demand3 bookOf rewritten f g
+  demand3 =
+      record {
+        ending = λ b list fills qs fit. ap (λ r. r .list) (ends b list fills qs fit);
+        good = λ b list fills qs. left-good f l b qs (g .start b) (m .good b list fills);
+        counting = λ b list fills qs fit. ap (λ r. r .count) (ends b list fills qs fit);
+        adding = adds;
+        telling = tells;
+        reordering = reorders;
+        rewriting = λ t list fills qs. let e = m .same t list fills in rw e (fills, refl, refl);
+      }

@@ -1,2 +1,3 @@
 pub mod Narrowing
 pub mod Run
+pub mod Form

@@ -1,12 +1,12 @@
 -- One narrowing call (document 01, "The dictionary and its list", "Refusal numbers"), over what its query, dictionary and lines come to.
 use Prim.Native.Nat.{ℕ, zero, suc, _-_}
 use mathlib.Core.List.{List, [], _∷_, _++_}
-use mathlib.Core.Bool.{Bool, true, not, _&&_}
-use lib.Dec.{ltb, leb}
+use mathlib.Core.Bool.{Bool, true, _&&_}
+use lib.Dec.{eqb, ltb, leb}
 use lib.ListN.{length, take, drop, replicate}
 use Rattle.format.specs.Format.{choose, keep}
 use Rattle.token.specs.Refusal.{listWrong, lineWrong}
-use Rattle.token.specs.Result.{Result, refusal, done}
+use Rattle.token.specs.Result.{Result, refusal, done, check, andThen}
 use Rattle.run.specs.declared.Narrowed.{Narrowed}
 
 -- n entries from k on, and entries 1 to n
@@ -35,19 +35,26 @@ unfoldable pub firstBad : (ℕ → Bool) → List ℕ → ℕ
 firstBad readable [] = 0
 firstBad readable (e ∷ entries) = choose (readable e) (firstBad readable entries) e
 
--- The entries that a call keeps, or its refusal. A query is refused, or it tests entries; after the query come the dictionary's
--- refusal (12, 14, or 0 for none), 11 and 13.
-unfoldable pub keptBy : Result (ℕ → Bool) → ℕ → (List ℕ → Bool) → (ℕ → Bool) → List ℕ → ℕ → Result (List ℕ)
-keptBy (refusal number place) dictionary valid readable list n = refusal number place
-keptBy (done test) dictionary valid readable list n =
-    choose (ltb 0 dictionary) (refusal dictionary 0)
-    (choose (not (listed valid list n)) (refusal listWrong 0)
-    (choose (ltb 0 (firstBad readable (take n list))) (refusal lineWrong (firstBad readable (take n list)))
-    (done (keep test (take n list)))))
+-- refused as 13 with that entry
+abbrev pub checkLines : {A : Type 0} → (ℕ → Bool) → List ℕ → Result A → Result A
+checkLines readable entries r = check (eqb (firstBad readable entries) 0) lineWrong (firstBad readable entries) r
+
+-- The entries that a call keeps: refused as its query is, then as the dictionary is, then as 11 and 13. A query tests entries; a
+-- dictionary has a line count, over which `valid` tests a list.
+unfoldable pub keptBy : Result (ℕ → Bool) → Result ℕ → (ℕ → List ℕ → Bool) → (ℕ → Bool) → List ℕ → ℕ → Result (List ℕ)
+keptBy query count valid readable list n =
+    andThen query λ test.
+    andThen count λ lines.
+    check (listed (valid lines) list n) listWrong 0
+    (checkLines readable (take n list)
+    (done (keep test (take n list))))
+
+abbrev pub notNarrowed : ℕ → ℕ → Narrowed
+notNarrowed number place = record { number = number; place = place; kept = 0; dropped = 0 }
 
 -- what a call answers: zeros but for number and place where it is refused
 unfoldable pub answerOf : ℕ → Result (List ℕ) → Narrowed
-answerOf n (refusal number place) = record { number = number; place = place; kept = 0; dropped = 0 }
+answerOf n (refusal number place) = notNarrowed number place
 answerOf n (done kept) = record { number = 0; place = 0; kept = length kept; dropped = n - length kept }
 
 -- entries, zeros in the places after them up to n, and the rest
@@ -63,5 +70,5 @@ abbrev pub narrowing : List ℕ → ℕ → Result (List ℕ) → Narrowed × Li
 narrowing list n kept = (answerOf n kept, listAfter list n kept)
 
 -- a call on a list memory and a count n: what it answers, and the list memory after it
-unfoldable pub narrowedBy : Result (ℕ → Bool) → ℕ → (List ℕ → Bool) → (ℕ → Bool) → List ℕ → ℕ → Narrowed × List ℕ
-narrowedBy query dictionary valid readable list n = narrowing list n (keptBy query dictionary valid readable list n)
+unfoldable pub narrowedBy : Result (ℕ → Bool) → Result ℕ → (ℕ → List ℕ → Bool) → (ℕ → Bool) → List ℕ → ℕ → Narrowed × List ℕ
+narrowedBy query count valid readable list n = narrowing list n (keptBy query count valid readable list n)

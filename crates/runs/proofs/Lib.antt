@@ -1,4 +1,3 @@
-pub mod Plain
 pub mod Demand3
 pub mod Running
 pub mod Whole

@@ -10,19 +10,18 @@ use Rattle.charset.specs.declared.Charset.{Charset}
 use Rattle.token.specs.Result.{Result, refusal, done, inRoom, leftAs, output}
 use Rattle.lines.specs.Lines.{lines, ended}
 use Rattle.run.specs.declared.Narrowed.{Narrowed}
+use Rattle.run.specs.Narrowing.{notNarrowed}
 use Rattle.run.specs.Run.{Ended, run, total}
 use Rattle.dictionary.specs.declared.Opened.{Opened}
 use Rattle.dictionary.specs.Opening.{opening, openedAs, opened}
 use Rattle.dictionary.specs.Narrowing.{narrowed}
 use Rattle.runs.specs.Demand3.{Opens, runOn, meeting}
-use Rattle.runs.proofs.Demand3.{Start, start-of, opens-done, demand3}
+use Rattle.dictionary.proofs.Openings.{opened-from}
+use Rattle.runs.proofs.Demand3.{demand3}
 use Rattle.runs.specs.Runs.{endedAs, ranAs, ranOn}
 
-abbrev refusedAs : ℕ → ℕ → Narrowed
-refusedAs number place = record { number = number; place = place; kept = 0; dropped = 0 }
-
 module _ (set : Charset) (dict list queries : List ℕ) (b : Bool) (t : b ≡ ended queries) where
-  pub unended : not b ≡ true → (r : Narrowed) → r ≡ refusedAs 2 (length queries) → (r, list) ≡ ranOn set dict list queries
+  pub unended : not b ≡ true → (r : Narrowed) → r ≡ notNarrowed 2 (length queries) → (r, list) ≡ ranOn set dict list queries
   unfolding ranOn
   unended k r e = let f : ended queries ≡ false = sym t ∙ not-true b k in rw (e, f)
 
@@ -30,7 +29,7 @@ module _ (set : Charset) (dict list queries : List ℕ) (b : Bool) (t : b ≡ en
     whole : ended queries ≡ true
     whole = sym t ∙ not-false b k
 
-    pub not-opened : (o .number ≡ 0 → ⊥) → (r : Narrowed) → r ≡ refusedAs (o .number) (o .place) → (r, after) ≡ ranOn set dict list queries
+    pub not-opened : (o .number ≡ 0 → ⊥) → (r : Narrowed) → r ≡ notNarrowed (o .number) (o .place) → (r, after) ≡ ranOn set dict list queries
     unfolding ranOn opened output
     not-opened z r f = rw whole (go (inRoom (length list) (opening set dict)) e m)
       where
@@ -41,9 +40,6 @@ module _ (set : Charset) (dict list queries : List ℕ) (b : Bool) (t : b ≡ en
     module _ (z : o .number ≡ 0) where
       opens : Opens set dict list
       opens = ap (λ o. o .number) (sym e) ∙ z
-
-      start : Start set dict list
-      start = start-of set dict list opens
 
       ran : Ended
       ran = run (narrowed set dict) (lines queries) after (o .lines)
@@ -57,10 +53,10 @@ module _ (set : Charset) (dict list queries : List ℕ) (b : Bool) (t : b ≡ en
 
       pub within : total (run (narrowed set dict) (lines queries) after (o .lines) .answers) ≤ 65535
       unfolding ran
-      within = omega (arith, sum, leb-true (length (lines dict)) 65535 (start .few))
+      within = omega (arith, sum, leb-true (length (lines dict)) 65535 (opened-from set dict list opens .0 .few))
 
       pub ended-so : (r : Narrowed) (last : List ℕ) → (r, last) ≡ endedAs (run (narrowed set dict) (lines queries) after (o .lines)) → (r, last) ≡ ranOn set dict list queries
       unfolding ranOn endedAs ran
       ended-so r last f =
-          rw (whole, opens-done set dict list start)
+          rw (whole, opened-from set dict list opens .1)
           (f ∙ rw (ap (λ r. r .count) same, demand3 .counting set dict list opens (lines queries), sum, ap (λ r. r .list) same, demand3 .ending set dict list opens (lines queries)))

@@ -8,14 +8,15 @@ use mathlib.Core.Bool.{Bool, true, _&&_}
 use lib.ListN.{length, drop}
 use Rattle.format.specs.Format.{keep}
 use Rattle.charset.specs.declared.Charset.{Charset}
-use Rattle.token.specs.Result.{Result, refusal, done, output}
-use Rattle.sign.specs.Transcription.{otherSet, transcription}
+use Rattle.token.specs.Result.{output}
+use Rattle.sign.specs.Transcription.{otherSet}
 use Rattle.query.specs.Reading.{queryOf, readingOf}
 use Rattle.verdict.specs.Verdict.{verdictIn}
-use Rattle.lines.specs.Lines.{lines, lineOf, bytesOf}
+use Rattle.lines.specs.Lines.{lines, lineOf}
 use Rattle.run.specs.Narrowing.{rising, filled}
 use Rattle.run.specs.Run.{Ended, run, total, told}
 use Rattle.entries.specs.Entries.{isDone, entriesOf}
+use Rattle.books.specs.Book.{rewritten}
 use Rattle.dictionary.specs.Opening.{opening, opened}
 use Rattle.dictionary.specs.Narrowing.{narrowed}
 
@@ -43,14 +44,6 @@ meeting set dict queries = keep (λ e. meetsEach set (keep isAccepted queries) (
 -- the number and place with which the query itself is refused, zeros where it is accepted
 abbrev pub ownRefusal : List ℕ → ℕ × ℕ
 ownRefusal query = (readingOf (queryOf query) .number, readingOf (queryOf query) .place)
-
-abbrev pub textOf : Result (List ℕ) → List ℕ
-textOf (refusal number place) = []
-textOf (done text) = text
-
--- the rewritten dictionary: each line transcribed, with its byte 10
-unfoldable pub rewritten : Charset → List ℕ → List ℕ
-rewritten set dict = bytesOf (map (λ line. textOf (transcription set line)) (lines dict))
 
 -- For every dictionary that opens into a list memory, and all queries in order:
 pub record Demand3 : Type 0 where

@@ -8,7 +8,7 @@ use Rattle.token.specs.Refusal.{textShort}
 use Rattle.token.specs.Result.{Result, refusal, done, inRoom}
 use Rattle.lines.specs.Lines.{lines, ended}
 use Rattle.run.specs.declared.Narrowed.{Narrowed}
-use Rattle.run.specs.Narrowing.{filled}
+use Rattle.run.specs.Narrowing.{notNarrowed, filled}
 use Rattle.run.specs.Run.{Ended, total}
 use Rattle.dictionary.specs.Opening.{opening}
 use Rattle.runs.specs.Demand3.{meeting}
@@ -17,17 +17,14 @@ use Rattle.runs.specs.Demand3.{meeting}
 unfoldable pub endedAs : Ended → Narrowed × List ℕ
 endedAs r = (record { number = 0; place = 0; kept = r .count; dropped = total (r .answers) }, r .list)
 
-abbrev pub notRun : ℕ → ℕ → List ℕ → Narrowed × List ℕ
-notRun number place list = (record { number = number; place = place; kept = 0; dropped = 0 }, list)
-
 -- with `left` entries of n: these, zeros to the line count n, and beyond that what was there before
 abbrev pub leaving : List ℕ → ℕ → List ℕ → Narrowed × List ℕ
 leaving list n left = (record { number = 0; place = 0; kept = length left; dropped = n - length left }, filled n left (drop n list))
 
 abbrev pub ranAs : Charset → List ℕ → List ℕ → List (List ℕ) → Result (List ℕ) → Narrowed × List ℕ
-ranAs set dict list queries (refusal number place) = notRun number place list
+ranAs set dict list queries (refusal number place) = (notNarrowed number place, list)
 ranAs set dict list queries (done entries) = leaving list (length (lines dict)) (meeting set dict queries)
 
 unfoldable pub ranOn : Charset → List ℕ → List ℕ → List ℕ → Narrowed × List ℕ
 ranOn set dict list queries =
-    choose (ended queries) (ranAs set dict list (lines queries) (inRoom (length list) (opening set dict))) (notRun textShort (length queries) list)
+    choose (ended queries) (ranAs set dict list (lines queries) (inRoom (length list) (opening set dict))) (notNarrowed textShort (length queries), list)

@@ -11,19 +11,9 @@ use lines::walk::count;
 use lines::walk::is_ended;
 use lines::walk::line_end;
 use run::Narrowed;
+use run::not_narrowed;
 use token::refusal::DONE;
 use token::refusal::TEXT_SHORT;
-
-fn not_run(number: u8, place: usize) -> Narrowed
-    ensures { λ r. ⌜ r ≡ record { number = number; place = place; kept = 0; dropped = 0 } ⌝ }
-{
-    Narrowed {
-        number: number,
-        place: place,
-        kept: 0,
-        dropped: 0,
-    }
-}
 
 // The n of the next call: the k of this one if it was accepted.
 fn next_count(n: usize, answer: Narrowed) -> usize
@@ -69,14 +59,14 @@ pub fn run_queries(set: Charset, dict: &[u8], list: &mut [u16], queries: &[u8]) 
     ensures { λ r. ⌜ (r, now (list .exit)) ≡ ranOn set (now (dict .entry)) (now (list .entry)) (now (queries .entry)) ⌝ }
 {
     if !is_ended(queries) {
-        return not_run(TEXT_SHORT, queries.len());
+        return not_narrowed(TEXT_SHORT, queries.len());
     }
     let opened = dictionary::open(set, dict, list);
     let number = opened.number;
     let place = opened.place;
     let lines = opened.lines;
     if number != DONE {
-        return not_run(number, place);
+        return not_narrowed(number, place);
     }
     narrow_each(set, dict, list, lines, queries)
 }

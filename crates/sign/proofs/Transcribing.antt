@@ -2,30 +2,24 @@
 use Prim.Native.Nat.{ℕ, zero, suc, _≤_, _<_}
 use mathlib.Core.List.{List, [], _∷_, _++_, map}
 use mathlib.Core.Path.{_≡_, refl, sym, ap, _∙_}
-use mathlib.Core.Bool.{Bool, true, false}
 use mathlib.Core.Logic.{⊎-elim}
-use lib.Dec.{ltb}
-use lib.ListN.{length, getD, List·getD-map, List·getD-append}
+use lib.ListN.{length, length-map, getD, List·getD-map, List·getD-append}
 use lib.Seq.{ext-getD, getD-at}
 use native.Mathlib.Omega.{arith}
 use native.Mathlib.Nat.{eq-or-lt-of-le}
-use borrow.Author.Tests.{ltb-false}
-use Rattle.format.specs.Format.{choose}
-use Rattle.format.specs.Places.{Outcome, fine, refused, unfinished}
 use Rattle.charset.specs.declared.Charset.{Charset}
 use Rattle.grammar.specs.Sign.{Spatial, Meaning, Valid, signText}
-use Rattle.grammar.specs.SignLaws.{readSign}
 use Rattle.grammar.proofs.SignLaws.{sign-laws}
 use Rattle.token.specs.declared.Written.{Written}
-use Rattle.token.specs.Result.{refusal, done, ofOutcome, onDone}
+use Rattle.token.specs.Result.{done, onDone}
 use Rattle.writer.proofs.Answers.{Answers, answers-refused}
 use Rattle.reader.specs.declared.arrays.Head.{Head}
-use Rattle.reader.specs.Signs.{withinLimits, signOf, padded}
+use Rattle.reader.specs.Signs.{signOf, padded}
 use Rattle.reader.specs.Inner.{ReadInto}
 use Rattle.writer.specs.Arrays.{upto, at, symbolAt, meaningIn}
 use Rattle.sign.specs.Transcription.{otherSet, transcription}
 use Rattle.reader.proofs.Filling.{padded-length}
-use Rattle.reader.proofs.Limits.{Known, not-read, was-read, known}
+use Rattle.reader.proofs.Limits.{sign-limited, Known, not-read, was-read, known}
 use Rattle.writer.proofs.Upto.{upto-length}
 
 pub upto-at : {A : Type 0} (g : ℕ → A) (n i : ℕ) (d : A) → i < n → getD (upto g n) i d ≡ g i
@@ -53,10 +47,6 @@ padded-at (suc k) [] i h n = absurd (omega arith)
 padded-at (suc k) (v ∷ l) zero h n = refl
 padded-at (suc k) (v ∷ l) (suc i) h n = padded-at k l i (omega arith) (omega arith)
 
-map-length : {A : Type 0} (of : A → ℕ) (l : List A) → length (map of l) ≡ length l
-map-length of [] = refl
-map-length of (a ∷ l) = ap suc (map-length of l)
-
 abbrev noSymbol : Spatial
 noSymbol = record { code = 0; x = 0; y = 0 }
 
@@ -64,7 +54,7 @@ noSymbol = record { code = 0; x = 0; y = 0 }
 part-at : (of : Spatial → ℕ) → of noSymbol ≡ 0 → (l : List Spatial) (array : List ℕ) → array ≡ padded 64 (map of l) → length l ≤ 64 → (i : ℕ) → i < length l
     → at array i ≡ of (getD l i noSymbol)
 part-at of z l array e n i h =
-    let k = map-length of l in
+    let k = length-map l of in
     ap (λ a. getD a i 0) e
     ∙ padded-at 64 (map of l) i (omega arith) (omega arith)
     ∙ ap (getD (map of l) i) (sym z)
@@ -76,41 +66,14 @@ pub record Within (m : Meaning) : Type 0 where
   pub symbols : length (m .symbols) ≤ 64
   pub valid : Valid m
 
-within-go : (m k : Meaning) (a b : Bool) → ltb 32 (length (k .prefix)) ≡ a → ltb 64 (length (k .symbols)) ≡ b → Valid k
-    → choose a (refusal 3 0) (choose b (refusal 4 0) (done k)) ≡ done m → Within m
-within-go m k true b p q ok e = absurd (let z : _≡_ {A = ℕ} 0 1 = cc in omega arith)
-within-go m k false true p q ok e = absurd (let z : _≡_ {A = ℕ} 0 1 = cc in omega arith)
-within-go m k false false p q ok e =
-    let same : k ≡ m = cc in
-    rw same at (within k (ltb-false 32 (length (k .prefix)) p) (ltb-false 64 (length (k .symbols)) q) ok)
-  where
-    within : (k : Meaning) → length (k .prefix) ≤ 32 → length (k .symbols) ≤ 64 → Valid k → Within k
-    within k a b ok = record { prefix = a; symbols = b; valid = ok }
-
-outcome-within : (set : Charset) (s : List ℕ) (o : Outcome Meaning) (m : Meaning) → readSign set s ≡ o → withinLimits (ofOutcome (length s) o) ≡ done m → Within m
-outcome-within set s (fine k) m q e =
-    within-go m k (ltb 32 (length (k .prefix))) (ltb 64 (length (k .symbols))) refl refl (sign-laws set .writes s k q .0) e
-outcome-within set s (refused p) m q e = absurd (let z : _≡_ {A = ℕ} 0 1 = cc in omega arith)
-outcome-within set s unfinished m q e = absurd (let z : _≡_ {A = ℕ} 0 1 = cc in omega arith)
-
 pub sign-within : (set : Charset) (s : List ℕ) (m : Meaning) → signOf set s ≡ done m → Within m
-unfolding signOf
-sign-within set s m e = outcome-within set s (readSign set s) m refl e
+sign-within set s m e =
+    let l = sign-limited set s m e in
+    record { prefix = l .prefix; symbols = l .symbols; valid = sign-laws set .writes s m (l .says) .0 }
 
 -- what was read is the text
-reads-go : (set : Charset) (s : List ℕ) (o : Outcome Meaning) (m : Meaning) → readSign set s ≡ o → withinLimits (ofOutcome (length s) o) ≡ done m → s ≡ signText set m
-reads-go set s (fine k) m q e = sign-laws set .writes s k q .1 ∙ ap (signText set) (same (ltb 32 (length (k .prefix))) (ltb 64 (length (k .symbols))) e)
-  where
-    same : (a b : Bool) → choose a (refusal 3 0) (choose b (refusal 4 0) (done k)) ≡ done m → k ≡ m
-    same true b e = absurd (let z : _≡_ {A = ℕ} 0 1 = cc in omega arith)
-    same false true e = absurd (let z : _≡_ {A = ℕ} 0 1 = cc in omega arith)
-    same false false e = cc
-reads-go set s (refused p) m q e = absurd (let z : _≡_ {A = ℕ} 0 1 = cc in omega arith)
-reads-go set s unfinished m q e = absurd (let z : _≡_ {A = ℕ} 0 1 = cc in omega arith)
-
 pub sign-reads : (set : Charset) (s : List ℕ) (m : Meaning) → signOf set s ≡ done m → s ≡ signText set m
-unfolding signOf
-sign-reads set s m e = reads-go set s (readSign set s) m refl e
+sign-reads set s m e = sign-laws set .writes s m (sign-limited set s m e .says) .1
 
 module _ (set : Charset) (s : List ℕ) (h : Head) (array codes xs ys : List ℕ) (v : ReadInto set s h array codes xs ys) (z : h .number ≡ 0) where
   abbrev lying : Meaning

@@ -1,25 +1,25 @@
 -- A sign and its transcription read as equal signs, and the way back returns the same bytes.
-use Prim.Native.Nat.{ℕ}
+use Prim.Native.Nat.{ℕ, _≤_}
 use mathlib.Core.List.{List}
 use mathlib.Core.Path.{_≡_, refl, sym, ap, _∙_}
 use lib.ListN.{length}
-use borrow.Author.Tests.{le-ltb}
 use Rattle.charset.specs.declared.Charset.{Charset}
 use Rattle.charset.specs.declared.Charset.the-variants.{Fsw, Swu}
 use Rattle.grammar.specs.Sign.{Meaning, signText}
 use Rattle.grammar.proofs.SignLaws.{sign-laws}
-use Rattle.token.specs.Result.{Result, refusal, done, ofOutcome, onDone}
-use Rattle.reader.specs.Signs.{withinLimits, signOf}
-use Rattle.sign.specs.Transcription.{otherSet, transcription, TranscriptionLaws}
+use Rattle.token.specs.Result.{done, onDone, written}
+use Rattle.token.proofs.Checks.{Counted, onDone-done}
+use Rattle.token.proofs.Results.{onDone-refusal}
+use Rattle.writer.proofs.Answers.{accepted, answers-room}
+use Rattle.reader.specs.Signs.{signOf}
+use Rattle.reader.proofs.Limits.{limited-sign, sign-counted}
+use Rattle.sign.specs.Transcription.{otherSet, transcription, otherText, Returned, TranscriptionLaws}
 use Rattle.sign.proofs.Transcribing.{Within, sign-within, sign-reads}
-use native.Mathlib.Omega.{arith}
 
 -- what is within the limits is read back from its text, in either set
 pub written-reads : (set : Charset) (m : Meaning) → Within m → signOf set (signText set m) ≡ done m
-unfolding signOf
 written-reads set m w =
-    ap (λ o. withinLimits (ofOutcome (length (signText set m)) o)) (sign-laws set .reads m (w .valid))
-    ∙ rw (le-ltb 32 (length (m .prefix)) (w .prefix), le-ltb 64 (length (m .symbols)) (w .symbols))
+    limited-sign set (signText set m) m (record { says = sign-laws set .reads m (w .valid); prefix = w .prefix; symbols = w .symbols })
 
 twice : (set : Charset) → otherSet (otherSet set) ≡ set
 twice Fsw = refl
@@ -33,11 +33,9 @@ record Meant (set : Charset) (text other : List ℕ) : Type 0 where
 
 meant : (set : Charset) (text other : List ℕ) → transcription set text ≡ done other → Meant set text other
 unfolding transcription
-meant set text other e = go (signOf set text) refl e
-  where
-    go : (r : Result Meaning) → signOf set text ≡ r → onDone (signText (otherSet set)) r ≡ done other → Meant set text other
-    go (refusal n p) q e = absurd (let z : _≡_ {A = ℕ} 0 1 = cc in omega arith)
-    go (done m) q e = let z : signText (otherSet set) m ≡ other = cc in record { meaning = m; reads = q; is = sym z }
+meant set text other e =
+    let d = onDone-done (signText (otherSet set)) (signOf set text) e in
+    record { meaning = d .0; reads = d .1 .0; is = sym (d .1 .1) }
 
 equal : (set : Charset) (text other : List ℕ) → transcription set text ≡ done other → signOf (otherSet set) other ≡ signOf set text
 equal set text other e =
@@ -52,5 +50,18 @@ back set text other e =
     ∙ ap (λ c. done (signText c (k .meaning))) (twice set)
     ∙ ap done (sym (sign-reads set text (k .meaning) (k .reads)))
 
+-- a call that was accepted, and the one back
+counted : (set : Charset) (text : List ℕ) → Counted (transcription set text)
+unfolding transcription
+counted set text n p e = sign-counted set text n p (onDone-refusal (signText (otherSet set)) (signOf set text) n p e)
+
+returned : (set : Charset) (text out room : List ℕ) → written out (transcription set text) .number ≡ 0 → length text ≤ length room → Returned set text out room
+returned set text out room h l =
+    let a = accepted out (transcription set text) (counted set text) h in
+    let e : transcription (otherSet set) (otherText set text out) ≡ done text =
+    ap (transcription (otherSet set)) (a .front) ∙ back set text (a .text) (a .is) in
+    let r = answers-room room e l in
+    record { answer = sym (r .0); memory = sym (r .1) }
+
 pub transcription-laws : TranscriptionLaws
-transcription-laws = record { equal = equal; back = back }
+transcription-laws = record { equal = equal; back = back; returned = returned }

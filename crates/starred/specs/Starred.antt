@@ -29,7 +29,7 @@ pub record StarredRows : Type 0 where
   pub S2ea04 : codeRead Fsw (ascii "S2ea04") ≡ record { number = 0; place = 0; code = 47045 }
   pub S38b5f : codeRead Fsw (ascii "S38b5f") ≡ record { number = 0; place = 0; code = 62592 }
   pub U40001 : codeText Swu 1 ≡ done (0xf1 ∷ 0x80 ∷ 0x80 ∷ 0x81 ∷ [])
-  pub emptySign : signOf Fsw [] ≡ refusal 2 0
+  pub emptySign : (signOf Fsw [] ≡ refusal 2 0) × (signOf Swu [] ≡ refusal 2 0)
   pub M749x750 : signOf Fsw (ascii "M749x750") ≡ refusal 1 6
   pub M500x500S37f00500x500 : signOf Fsw (ascii "M500x500S37f00500x500") ≡ refusal 1 11
   pub QAS100uuT : verdictIn Fsw (ascii "QAS100uuT") K ≡ answered (met [])

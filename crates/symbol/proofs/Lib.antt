@@ -1,3 +1,4 @@
 pub mod Codes
 pub mod CodeReads
 pub mod CodeLaws
+pub mod KeyLaws

@@ -10,14 +10,15 @@ use Rattle.format.specs.Places.{Outcome, fine, refused, unfinished}
 use Rattle.format.specs.Located.{found, ended}
 use Rattle.charset.specs.declared.Charset.{Charset}
 use Rattle.charset.specs.Tokens.{tokens}
+use Rattle.token.specs.Refusal.{textWrong, textShort}
 use Rattle.token.specs.Ends.{leftOver}
 
 -- what the test says is what the end of the text is
 abbrev judged : {A : Type 0} → A → ℕ → ℕ → Outcome A
-judged v i left = choose (eqb left 1) (refused i) (choose (eqb left 2) unfinished (fine v))
+judged v i left = choose (eqb left textWrong) (refused i) (choose (eqb left textShort) unfinished (fine v))
 
 judged-go : {A : Type 0} (v : A) (w size i : ℕ) → i ≤ size → (p q : Bool) → eqb i size ≡ p → ltb (size - i) w ≡ q
-    → judged v i (choose p 0 (choose q 2 1)) ≡ choose p (fine v) (choose (ltb size (i + w)) unfinished (refused i))
+    → judged v i (choose p 0 (choose q textShort textWrong)) ≡ choose p (fine v) (choose (ltb size (i + w)) unfinished (refused i))
 judged-go v w size i h true q x y = refl
 judged-go v w size i h false true x y = rw (lt-ltb size (i + w) (omega (arith, ltb-true (size - i) w y)))
 judged-go v w size i h false false x y = rw (le-ltb size (i + w) (omega (arith, ltb-false (size - i) w y)))
@@ -30,11 +31,11 @@ module _ {A : Type 0} (v : A) (set : Charset) (size i left : ℕ) (h : i ≤ siz
   is : ended (tokens set .unit) size (found v i) ≡ judged v i left
   is = sym (ap (judged v i) e ∙ judged-end v set size i h)
 
-  pub end-wrong : left ≡ 1 → ended (tokens set .unit) size (found v i) ≡ refused i
-  end-wrong q = is ∙ rw (eq-eqb left 1 q)
+  pub end-wrong : left ≡ textWrong → ended (tokens set .unit) size (found v i) ≡ refused i
+  end-wrong q = is ∙ rw (eq-eqb left textWrong q)
 
-  pub end-short : left ≡ 2 → ended (tokens set .unit) size (found v i) ≡ unfinished
+  pub end-short : left ≡ textShort → ended (tokens set .unit) size (found v i) ≡ unfinished
   end-short q = is ∙ rw (q)
 
-  pub end-fine : (left ≡ 1 → ⊥) → (left ≡ 2 → ⊥) → ended (tokens set .unit) size (found v i) ≡ fine v
-  end-fine p q = is ∙ rw (ne-eqb left 1 p, ne-eqb left 2 q)
+  pub end-fine : (left ≡ textWrong → ⊥) → (left ≡ textShort → ⊥) → ended (tokens set .unit) size (found v i) ≡ fine v
+  end-fine p q = is ∙ rw (ne-eqb left textWrong p, ne-eqb left textShort q)

@@ -4,3 +4,5 @@ pub mod Digits
 pub mod Keys
 pub mod Choices
 pub mod Ends
+pub mod Checks
+pub mod Results

@@ -1,5 +1,5 @@
 -- Laws of tokens read part by part: a function that reads one only cites these.
-use Prim.Native.Nat.{ℕ, _+_, _-_, _≤_}
+use Prim.Native.Nat.{ℕ, _+_, _≤_}
 use mathlib.Core.List.{List, [], _∷_}
 use mathlib.Core.Path.{_≡_, refl, sym, ap, _∙_}
 use mathlib.Core.Logic.{inl, inr}
@@ -23,11 +23,6 @@ Fails t = OneOf (1 ∷ 2 ∷ []) (tagOf the-type t)
 value-fails : {X : Type 0} (v : ℕ) → Fails (Value v) → X
 value-fails v (inl e) = let z : _≡_ {A = ℕ} 0 1 = cc in absurd (omega arith)
 value-fails v (inr e) = let z : _≡_ {A = ℕ} 0 2 = cc in absurd (omega arith)
-
-pub short-tag : (t : Token) → tagOf the-type t ≡ 2 → t ≡ Short
-short-tag (Value v) e = absurd (omega (arith, e))
-short-tag (Wrong p) e = absurd (omega (arith, e))
-short-tag Short e = refl
 
 -- Where a value is told it was found; what else is told was located.
 pub record At (l : Located ℕ) (v : ℕ) : Type 0 where

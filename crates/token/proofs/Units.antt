@@ -7,12 +7,12 @@ use lib.Dec.{ltb}
 use lib.ListN.{length, take, drop, getD, length-drop}
 use lib.Seq.{drop-cons}
 use native.Mathlib.Omega.{arith}
-use borrow.Author.Tests.{lt-ltb, le-ltb}
+use borrow.Author.Tests.{lt-ltb, le-ltb, ltb-true, ltb-false}
 use Rattle.format.specs.Format.{value, other, Format, choose, unit}
 use Rattle.format.specs.Numeral.{Range}
 use Rattle.format.specs.Located.{Located, found, wrongAt, cut, located, locate, onFound}
 use Rattle.format.proofs.At.{mapped-at}
-use Rattle.charset.specs.Bytes.{byteOf, scalarOf, utf8, character}
+use Rattle.charset.specs.Bytes.{byteOf, byte, scalarOf, utf8, character}
 use Rattle.token.specs.declared.reading.Token.the-variants.{Value, Wrong, Short}
 use Rattle.token.specs.Token.{told, tokenAt}
 
@@ -65,6 +65,14 @@ module _ (of : ℕ → ℕ) (to : ℕ → List ℕ) (lo hi : ℕ) (s : List ℕ)
 
     pub byte-within : lo ≤ d → d ≤ hi → Value d ≡ tokenAt one s at
     byte-within k h = located-is one s at _ (unit-within 1 (byteOf of) to lo hi s at d (omega arith) byte-is k h)
+
+-- a fixed byte
+pub byte-other : (b : ℕ) (s : List ℕ) (at : ℕ) → at < length s → (getD s at 0 ≡ b → ⊥) → Wrong at ≡ tokenAt (byte b) s at
+byte-other b s at room n = go (ltb (getD s at 0) b) refl
+  where
+    go : (t : Bool) → ltb (getD s at 0) b ≡ t → Wrong at ≡ tokenAt (byte b) s at
+    go true e = byte-below (λ a. a) (λ a. a ∷ []) b b s at (getD s at 0) room refl (ltb-true (getD s at 0) b e)
+    go false e = let h = ltb-false (getD s at 0) b e in byte-above (λ a. a) (λ a. a ∷ []) b b s at (getD s at 0) room refl h (omega (arith, n))
 
 -- one character
 pub four-at : (s : List ℕ) (at : ℕ) → at + 4 ≤ length s → take 4 (drop at s) ≡ getD s at 0 ∷ getD s (at + 1) 0 ∷ getD s (at + 2) 0 ∷ getD s (at + 3) 0 ∷ []

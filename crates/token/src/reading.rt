@@ -4,13 +4,32 @@ ghost use mathlib.Core.List.{[], _∷_};
 ghost use Prim.Native.Nat.{_+_, _-_, _^_, _≤_, min};
 ghost use Rattle.format.specs.Numeral.{Weights};
 ghost use Rattle.charset.specs.Bytes.{digitOf, digit as oneDigit, digits, byte, markerOf, letter, scalarOf, character};
-ghost use Rattle.charset.specs.Tokens.{key, null, nullOrKey, tokens};
+ghost use Rattle.charset.specs.Tokens.{lastPunctuation, key, null, nullOrKey, tokens};
 ghost use Rattle.token.specs.Token.{tokenAt};
 ghost use Rattle.token.specs.Ends.{leftOver};
 use super::refusal::DONE;
 use super::refusal::TEXT_SHORT;
 use super::refusal::TEXT_WRONG;
 use charset::Charset;
+
+// The last base of writing symbols, of location symbols and of punctuation: each class takes in those before it.
+pub const LAST_WRITING: u16 = 0x37e;
+
+pub const LAST_LOCATION: u16 = 0x386;
+
+pub const LAST_PUNCTUATION: u16 = 0x38b;
+
+// The numbers of a coordinate.
+pub const LEAST_NUMBER: u16 = 250;
+
+pub const GREATEST_NUMBER: u16 = 749;
+
+// The code points that markers, numbers and symbols are counted from in SWU.
+pub const MARKERS: u32 = 0x1d800;
+
+pub const NUMBERS: u32 = 0x1d80c - LEAST_NUMBER as u32;
+
+pub const SYMBOLS: u32 = 0x40000;
 
 // What reading one token finds: its value, the offset of the unit that is not allowed, or that the text ends.
 pub enum Token {
@@ -84,11 +103,12 @@ pub fn two_at(s: &[u8], at: usize, p: u16, lo: u16, hi: u16) -> Token
     let Token::Value(a) = first else {
         return first;
     };
-    let next = digit_at(s, at + 1, less(lo, a * p), least(p - 1, less(hi, a * p)));
+    let from = a * p;
+    let next = digit_at(s, at + 1, less(lo, from), least(p - 1, less(hi, from)));
     let Token::Value(b) = next else {
         return next;
     };
-    Token::Value(a * p + b)
+    Token::Value(from + b)
 }
 
 // Three digits that say a number of lo to hi, the first two with the weights p and q.
@@ -100,11 +120,12 @@ pub fn three_at(s: &[u8], at: usize, p: u16, q: u16, lo: u16, hi: u16) -> Token
     let Token::Value(a) = first else {
         return first;
     };
-    let next = two_at(s, at + 1, q, less(lo, a * p), least(p - 1, less(hi, a * p)));
+    let from = a * p;
+    let next = two_at(s, at + 1, q, less(lo, from), least(p - 1, less(hi, from)));
     let Token::Value(b) = next else {
         return next;
     };
-    Token::Value(a * p + b)
+    Token::Value(from + b)
 }
 
 // The byte b.
@@ -114,10 +135,7 @@ pub fn byte_at(s: &[u8], at: usize, b: u8) -> Token
     if s.len() <= at {
         return Token::Short;
     }
-    if s[at] < b {
-        return Token::Wrong(at);
-    }
-    if b < s[at] {
+    if s[at] != b {
         return Token::Wrong(at);
     }
     Token::Value(b as u16)
@@ -125,7 +143,7 @@ pub fn byte_at(s: &[u8], at: usize, b: u8) -> Token
 
 // What follows the S of a symbol key with a base of at most top, as its code.
 fn key_at(s: &[u8], at: usize, top: u16) -> Token
-    requires { ⌜ (at + 32 ≤ 2 ^ 64) × (0x100 ≤ top) × (top ≤ 0x38b) ⌝ }
+    requires { ⌜ (at + 32 ≤ 2 ^ 64) × (0x100 ≤ top) × (top ≤ lastPunctuation) ⌝ }
     ensures { λ r. ⌜ r ≡ tokenAt (key top) (now (s .entry)) at ⌝ }
 {
     let base = three_at(s, at, 256, 16, 0x100, top);
@@ -157,7 +175,7 @@ fn null_at(s: &[u8], at: usize) -> Token
 
 // What follows the S of the null symbol or of a symbol key with a base of at most top.
 fn null_or_key_at(s: &[u8], at: usize, top: u16) -> Token
-    requires { ⌜ (at + 32 ≤ 2 ^ 64) × (0x100 ≤ top) × (top ≤ 0x38b) ⌝ }
+    requires { ⌜ (at + 32 ≤ 2 ^ 64) × (0x100 ≤ top) × (top ≤ lastPunctuation) ⌝ }
     ensures { λ r. ⌜ r ≡ tokenAt (nullOrKey top) (now (s .entry)) at ⌝ }
 {
     let zero = null_at(s, at);
@@ -210,7 +228,8 @@ fn letter_at(s: &[u8], at: usize, lo: u16, hi: u16) -> Token
     Token::Value(m)
 }
 
-// The code point of four bytes of UTF-8, and 0 where they are none.
+// The code point of four bytes of UTF-8. What bytes say that are not well-formed lies outside every range that is
+// asked for.
 fn scalar(a: u8, b: u8, c: u8, d: u8) -> u32
     ensures { λ r. ⌜ r ≡ scalarOf (a ∷ b ∷ c ∷ d ∷ []) ⌝ }
 {
@@ -230,18 +249,18 @@ fn scalar(a: u8, b: u8, c: u8, d: u8) -> u32
 }
 
 // One character of four bytes, as its distance lo to hi from a code point.
-fn character_at(s: &[u8], at: usize, from: u32, lo: u32, hi: u32) -> Token
-    requires { ⌜ (at + 8 ≤ 2 ^ 64) × (from ≤ 0x40000) × (lo ≤ 65535) × (hi ≤ 65535) ⌝ }
+fn character_at(s: &[u8], at: usize, from: u32, lo: u16, hi: u16) -> Token
+    requires { ⌜ (at + 8 ≤ 2 ^ 64) × (from ≤ 0x40000) ⌝ }
     ensures { λ r. ⌜ r ≡ tokenAt (character from lo hi) (now (s .entry)) at ⌝ }
 {
     if s.len() < at + 4 {
         return Token::Short;
     }
     let c = scalar(s[at], s[at + 1], s[at + 2], s[at + 3]);
-    if c < from + lo {
+    if c < from + lo as u32 {
         return Token::Wrong(at);
     }
-    if from + hi < c {
+    if from + (hi as u32) < c {
         return Token::Wrong(at);
     }
     Token::Value((c - from) as u16)
@@ -249,7 +268,7 @@ fn character_at(s: &[u8], at: usize, from: u32, lo: u32, hi: u32) -> Token
 
 // A symbol in FSW with a base of at most top.
 fn fsw_symbol_at(s: &[u8], at: usize, top: u16) -> Token
-    requires { ⌜ (at + 64 ≤ 2 ^ 64) × (0x100 ≤ top) × (top ≤ 0x38b) ⌝ }
+    requires { ⌜ (at + 64 ≤ 2 ^ 64) × (0x100 ≤ top) × (top ≤ lastPunctuation) ⌝ }
     ensures { λ r. ⌜ r ≡ tokenAt (tokens Charset.Fsw .symbol top) (now (s .entry)) at ⌝ }
 {
     let letter = byte_at(s, at, b'S');
@@ -261,7 +280,7 @@ fn fsw_symbol_at(s: &[u8], at: usize, top: u16) -> Token
 
 // The same, or the null symbol.
 fn fsw_symbol_or_null_at(s: &[u8], at: usize, top: u16) -> Token
-    requires { ⌜ (at + 64 ≤ 2 ^ 64) × (0x100 ≤ top) × (top ≤ 0x38b) ⌝ }
+    requires { ⌜ (at + 64 ≤ 2 ^ 64) × (0x100 ≤ top) × (top ≤ lastPunctuation) ⌝ }
     ensures { λ r. ⌜ r ≡ tokenAt (tokens Charset.Fsw .symbolOrNull top) (now (s .entry)) at ⌝ }
 {
     let letter = byte_at(s, at, b'S');
@@ -280,7 +299,7 @@ fn fsw_second_at(s: &[u8], at: usize) -> Token
     let Token::Value(_) = letter else {
         return letter;
     };
-    three_at(s, at + 1, 100, 10, 250, 749)
+    three_at(s, at + 1, 100, 10, LEAST_NUMBER, GREATEST_NUMBER)
 }
 
 // A marker of lo to hi.
@@ -290,29 +309,29 @@ pub fn marker_at(set: Charset, s: &[u8], at: usize, lo: u16, hi: u16) -> Token
 {
     match set {
         Charset::Fsw => letter_at(s, at, lo, hi),
-        Charset::Swu => character_at(s, at, 0x1d800, lo as u32, hi as u32),
+        Charset::Swu => character_at(s, at, MARKERS, lo, hi),
     }
 }
 
 // A symbol with a base of at most top.
 pub fn symbol_at(set: Charset, s: &[u8], at: usize, top: u16) -> Token
-    requires { ⌜ (at + 64 ≤ 2 ^ 64) × (0x100 ≤ top) × (top ≤ 0x38b) ⌝ }
+    requires { ⌜ (at + 64 ≤ 2 ^ 64) × (0x100 ≤ top) × (top ≤ lastPunctuation) ⌝ }
     ensures { λ r. ⌜ r ≡ tokenAt (tokens set .symbol top) (now (s .entry)) at ⌝ }
 {
     match set {
         Charset::Fsw => fsw_symbol_at(s, at, top),
-        Charset::Swu => character_at(s, at, 0x40000, 1, (top as u32 - 0xff) * 96),
+        Charset::Swu => character_at(s, at, SYMBOLS, 1, (top - 0xff) * 96),
     }
 }
 
 // The same, or the null symbol.
 pub fn symbol_or_null_at(set: Charset, s: &[u8], at: usize, top: u16) -> Token
-    requires { ⌜ (at + 64 ≤ 2 ^ 64) × (0x100 ≤ top) × (top ≤ 0x38b) ⌝ }
+    requires { ⌜ (at + 64 ≤ 2 ^ 64) × (0x100 ≤ top) × (top ≤ lastPunctuation) ⌝ }
     ensures { λ r. ⌜ r ≡ tokenAt (tokens set .symbolOrNull top) (now (s .entry)) at ⌝ }
 {
     match set {
         Charset::Fsw => fsw_symbol_or_null_at(s, at, top),
-        Charset::Swu => character_at(s, at, 0x40000, 0, (top as u32 - 0xff) * 96),
+        Charset::Swu => character_at(s, at, SYMBOLS, 0, (top - 0xff) * 96),
     }
 }
 
@@ -322,8 +341,8 @@ pub fn number_at(set: Charset, s: &[u8], at: usize) -> Token
     ensures { λ r. ⌜ r ≡ tokenAt (tokens set .number) (now (s .entry)) at ⌝ }
 {
     match set {
-        Charset::Fsw => three_at(s, at, 100, 10, 250, 749),
-        Charset::Swu => character_at(s, at, 0x1d80c - 250, 250, 749),
+        Charset::Fsw => three_at(s, at, 100, 10, LEAST_NUMBER, GREATEST_NUMBER),
+        Charset::Swu => character_at(s, at, NUMBERS, LEAST_NUMBER, GREATEST_NUMBER),
     }
 }
 
@@ -334,11 +353,20 @@ pub fn second_at(set: Charset, s: &[u8], at: usize) -> Token
 {
     match set {
         Charset::Fsw => fsw_second_at(s, at),
-        Charset::Swu => character_at(s, at, 0x1d80c - 250, 250, 749),
+        Charset::Swu => character_at(s, at, NUMBERS, LEAST_NUMBER, GREATEST_NUMBER),
     }
 }
 
-// The bytes of a symbol.
+// The bytes of each token, and of a unit.
+pub fn marker_size(set: Charset) -> usize
+    ensures { λ r. ⌜ r ≡ tokens set .markerSize ⌝ }
+{
+    match set {
+        Charset::Fsw => 1,
+        Charset::Swu => 4,
+    }
+}
+
 pub fn symbol_size(set: Charset) -> usize
     ensures { λ r. ⌜ r ≡ tokens set .symbolSize ⌝ }
 {
@@ -348,7 +376,15 @@ pub fn symbol_size(set: Charset) -> usize
     }
 }
 
-// The bytes of a unit.
+pub fn number_size(set: Charset) -> usize
+    ensures { λ r. ⌜ r ≡ tokens set .numberSize ⌝ }
+{
+    match set {
+        Charset::Fsw => 3,
+        Charset::Swu => 4,
+    }
+}
+
 fn unit(set: Charset) -> usize
     ensures { λ r. ⌜ r ≡ tokens set .unit ⌝ }
 {

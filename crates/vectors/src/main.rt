@@ -1,168 +1,155 @@
-// The worked examples of document 01, "Bench sheet", and the sign at the head of document 000, through the public
-// entries: a line for each row, held to the file stdout, which is written from the papers.
+// The worked examples of document 01, "Bench sheet", the sign at the head of document 000, and some of their neighbours,
+// through the public entries. A row of standard input is a letter for what is asked, a colon and a text. Each is written
+// again after its answer: the number, the place, then the values, or the length and the text that was written. The file
+// stdout, which this is held to, is written from the papers.
+ghost use Prim.Native.Nat.{_≤_};
+ghost use lib.ListN.{length};
 use charset::Charset;
+use libc::STDIN_FILENO;
 use libc::STDOUT_FILENO;
 
-// `text: answer place value`
-fn line(text: &[u8], number: u8, place: usize, value: u64) {
-    io::write_all(STDOUT_FILENO, text);
-    io::write_all(STDOUT_FILENO, b": ");
-    io::print_decimal(STDOUT_FILENO, number as u64);
-    io::write_all(STDOUT_FILENO, b" ");
-    io::print_decimal(STDOUT_FILENO, place as u64);
-    io::write_all(STDOUT_FILENO, b" ");
-    io::print_decimal(STDOUT_FILENO, value);
-    io::write_all(STDOUT_FILENO, b"\n");
+// The first place of a byte from a place on, or the length.
+fn find(text: &[u8], from: usize, byte: u8) -> usize
+    requires { ⌜ from ≤ length (now text) ⌝ }
+    ensures { λ r. ⌜ (from ≤ r) × (r ≤ length (now (text .entry))) ⌝ }
+{
+    let mut i = from;
+    while i < text.len() {
+        if text[i] == byte {
+            return i;
+        }
+        i += 1;
+    }
+    i
 }
 
-// A key: its code.
+fn put(n: u64) {
+    io::print_decimal(STDOUT_FILENO, n);
+    io::write_all(STDOUT_FILENO, b" ");
+}
+
+fn put_three(a: u64, b: u64, c: u64) {
+    put(a);
+    put(b);
+    put(c);
+}
+
+// The answer of a call that writes, and what it wrote.
+fn put_text(r: token::Written, out: &[u8]) {
+    let n = r.length;
+    put_three(r.number as u64, r.place as u64, n as u64);
+    if n <= out.len() {
+        io::write_all(STDOUT_FILENO, &out[0..n]);
+    }
+}
+
+// The code of a key, and the character of that code.
 fn key(text: &[u8]) {
     let r = symbol::key_to_code(text);
-    line(text, r.number, r.place, r.code as u64);
+    put_three(r.number as u64, r.place as u64, r.code as u64);
 }
 
-// A code: its key, and its SWU character as the key's code again.
-fn code(c: u64) {
-    let mut out = [0u8; 6];
-    let r = symbol::code_to_key(c, &mut out);
-    line(&out, r.number, r.place, r.length as u64);
-    let mut character = [0u8; 4];
-    symbol::code_to_char(c, &mut character);
-    let back = symbol::char_to_code(&character);
-    line(&character, back.number, back.place, back.code as u64);
+fn character(text: &[u8]) {
+    let r = symbol::key_to_code(text);
+    let mut out = [0u8; 4];
+    put_text(symbol::code_to_char(r.code as u64, &mut out), &out);
 }
 
-// A text read as an FSW sign: how many signbox symbols it has.
-fn sign(text: &[u8]) {
-    let r = sign::read(Charset::Fsw, text);
-    let s = r.sign;
-    line(text, r.number, r.place, s.symbol_count as u64);
+fn sign_in(set: Charset, text: &[u8]) {
+    let r = sign::read(set, text);
+    put(r.number as u64);
+    put(r.place as u64);
 }
 
-// A transcription, and the way back.
-fn there_and_back(text: &[u8]) {
-    let mut swu = [0u8; 912];
-    let r = sign::transcribe(Charset::Fsw, text, &mut swu);
-    let n = r.length;
-    if 912 < n {
-        return;
-    }
-    io::write_all(STDOUT_FILENO, &swu[0..n]);
-    io::write_all(STDOUT_FILENO, b"\n");
-    let mut fsw = [0u8; 1033];
-    let back = sign::transcribe(Charset::Swu, &swu[0..n], &mut fsw);
-    let m = back.length;
-    if 1033 < m {
-        return;
-    }
-    io::write_all(STDOUT_FILENO, &fsw[0..m]);
-    io::write_all(STDOUT_FILENO, b"\n");
-}
-
-// A query: how many signbox items it has.
-fn query(text: &[u8]) {
+fn query_in(text: &[u8]) {
     let r = query::read(text);
-    let q = r.query;
-    line(text, r.number, r.place, q.item_count as u64);
+    put(r.number as u64);
+    put(r.place as u64);
 }
 
-// The verdict of a query on K: met, with the symbols of the first two items, or the unmet condition.
-fn verdict(query: &[u8]) {
-    let v = verdict::verdict(
-        Charset::Fsw,
-        query,
-        b"AS10000S20500M510x515S10000490x485S20500500x495",
-    );
+fn transcription(set: Charset, text: &[u8]) {
+    let mut out = [0u8; 1033];
+    put_text(sign::transcribe(set, text, &mut out), &out);
+}
+
+// A query, a space and an FSW sign: 1 if it meets the query, the unmet condition, the symbols of the first two items.
+fn verdict_on(text: &[u8]) {
+    let end = find(text, 0, b' ');
+    if end == text.len() {
+        return;
+    }
+    let v = verdict::verdict(Charset::Fsw, &text[0..end], &text[end + 1..]);
     let witnesses = v.witnesses;
     let first = witnesses[0] as u64;
     let second = witnesses[1] as u64;
-    io::write_all(STDOUT_FILENO, query);
-    if v.met {
-        io::write_all(STDOUT_FILENO, b": met ");
-        io::print_decimal(STDOUT_FILENO, first);
-        io::write_all(STDOUT_FILENO, b" ");
-        io::print_decimal(STDOUT_FILENO, second);
-    } else {
-        io::write_all(STDOUT_FILENO, b": unmet ");
-        io::print_decimal(STDOUT_FILENO, v.unmet as u64);
-    }
-    io::write_all(STDOUT_FILENO, b"\n");
+    put_three(v.number as u64, v.place as u64, v.met as u64);
+    put_three(v.unmet as u64, first, second);
 }
 
-// A sign centred over the sizes of the sheet: S10000 15 by 30, S20500 10 by 10, S2ff00 36 by 36, S36d00 60 by 20.
-fn centred(text: &[u8]) {
+fn store(list: &mut [u8], at: usize, byte: u8) {
+    if at < list.len() {
+        list[at] = byte;
+    }
+}
+
+// The sizes of the sheet: S10000 15 by 30, S20500 10 by 10, S2ff00 36 by 36, S36d00 60 by 20.
+fn set_sizes(sizes: &mut [u8]) {
+    let places = [0usize, 1, 50112, 50113, 98112, 98113, 119232, 119233];
+    let bytes = [15u8, 30, 10, 10, 36, 36, 60, 20];
+    let mut i: usize = 0;
+    while i < 8 {
+        store(sizes, places[i], bytes[i]);
+        i += 1;
+    }
+}
+
+fn centring(text: &[u8]) {
     let mut sizes = [0u8; 125184];
-    sizes[0] = 15;
-    sizes[1] = 30;
-    sizes[50112] = 10;
-    sizes[50113] = 10;
-    sizes[98112] = 36;
-    sizes[98113] = 36;
-    sizes[119232] = 60;
-    sizes[119233] = 20;
+    set_sizes(&mut sizes);
     let mut out = [0u8; 1033];
-    let r = geometry::centred(Charset::Fsw, text, &sizes, &mut out);
-    let n = r.length;
-    if 1033 < n {
-        return;
+    put_text(
+        geometry::centred(Charset::Fsw, text, &sizes, &mut out),
+        &out,
+    );
+}
+
+// k: a key's code; c: its character; f and s: an FSW and an SWU sign; t and b: transcribed from FSW, and back from SWU; q: a
+// query; v: a verdict; m: a sign moved to the middle.
+fn answer(kind: u8, text: &[u8]) {
+    match kind {
+        b'k' => key(text),
+        b'c' => character(text),
+        b'f' => sign_in(Charset::Fsw, text),
+        b's' => sign_in(Charset::Swu, text),
+        b't' => transcription(Charset::Fsw, text),
+        b'b' => transcription(Charset::Swu, text),
+        b'q' => query_in(text),
+        b'v' => verdict_on(text),
+        b'm' => centring(text),
+        _ => put(999),
     }
+}
+
+fn rows(text: &[u8]) {
+    let mut at: usize = 0;
+    while at < text.len() {
+        let end = find(text, at, b'\n');
+        row(&text[at..end]);
+        at = end + 1;
+    }
+}
+
+fn row(text: &[u8]) {
+    if text.len() >= 2 {
+        answer(text[0], &text[2..]);
+    }
+    io::write_all(STDOUT_FILENO, b"\t");
     io::write_all(STDOUT_FILENO, text);
-    io::write_all(STDOUT_FILENO, b": ");
-    io::write_all(STDOUT_FILENO, &out[0..n]);
     io::write_all(STDOUT_FILENO, b"\n");
-}
-
-fn codes() {
-    key(b"S10019");
-    key(b"S2ea04");
-    key(b"S38b5f");
-    key(b"S00000");
-    key(b"S38c00");
-    key(b"S38b60");
-    key(b"S00001");
-    key(b"S10000x");
-    key(b"S3");
-    code(1);
-    code(62592);
-    code(62593);
-}
-
-fn signs() {
-    sign(b"");
-    sign(b"M250x25");
-    sign(b"M749x750");
-    sign(b"M500x500S37f00500x500");
-    sign(b"M500x500S00000500x500");
-    sign(b"AM500x500");
-    sign(b"AS00000M500x500");
-    sign(b"AS10000S20500M510x515S10000490x485S20500500x495");
-}
-
-fn queries() {
-    query(b"QR204t100");
-    query(b"QAT");
-    query(b"QAS10000500x500T");
-    query(b"QV1234");
-    query(b"QTS100uu490x505R100t204V5");
-    verdict(b"QAS100uuT");
-    verdict(b"QAS20500T");
-    verdict(b"QS100uu490x505");
-    verdict(b"QS100uu490x506");
-    verdict(b"QS100uu490x505V19");
-    verdict(b"QS100uuS100uu");
-}
-
-fn centrings() {
-    centred(b"M520x515S10000490x490S20500500x500");
-    centred(b"M540x540S2ff00482x483S36d00470x520");
 }
 
 fn main() {
-    codes();
-    signs();
-    queries();
-    centrings();
-    there_and_back(
-        b"M548x535S10019452x474S10011476x465S2ea04481x501S2ea48459x509S29b0b514x500S15a0a515x473S1eb20524x489",
-    );
+    let mut input = [0u8; 8192];
+    let n = io::read_full(STDIN_FILENO, &mut input);
+    rows(&input[..n]);
 }

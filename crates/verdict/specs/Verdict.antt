@@ -1,17 +1,19 @@
 -- The verdict on texts: every refusal of the query, then those of the sign, then the judgement (document 01, "Refusal numbers").
-use Prim.Native.Nat.{ℕ}
+use Prim.Native.Nat.{ℕ, _<_}
 use mathlib.Core.Path.{_≡_}
 use mathlib.Core.List.{List}
-use mathlib.Core.Bool.{false}
+use mathlib.Core.Bool.{true, false}
+use mathlib.Core.Logic.{_↔_}
 use Rattle.charset.specs.declared.Charset.{Charset}
 use Rattle.grammar.specs.Sign.{Meaning}
 use Rattle.token.specs.Result.{Result, refusal, done}
-use Rattle.reader.specs.Signs.{zeros, signOf}
+use Rattle.reader.specs.Signs.{padded, zeros, signOf}
 use Rattle.sign.specs.Transcription.{otherSet, transcription}
 use Rattle.querygrammar.specs.Query.{Query}
 use Rattle.query.specs.Reading.{queryOf}
 use Rattle.matching.specs.declared.Verdict.{Verdict}
-use Rattle.matching.specs.Meets.{verdictOf, answered}
+use Rattle.matching.specs.Meets.{Serves, Condition, Meets, verdictOf, answered}
+use Rattle.matching.specs.MeetsLaws.{First, Pairwise}
 
 -- not met, and zeros but for number and place
 abbrev pub refusedAs : ℕ → ℕ → Verdict
@@ -29,6 +31,27 @@ verdictBy (done q) sign = verdictOn q sign
 unfoldable pub verdictIn : Charset → List ℕ → List ℕ → Verdict
 verdictIn set query text = verdictBy (queryOf query) (signOf set text)
 
--- the verdict depends on the sign alone, and not on its character set
+-- WHAT IS PROVED OF IT
+
+-- the texts are accepted, and read as a query and a sign
+pub record Reads (set : Charset) (query text : List ℕ) (q : Query) (m : Meaning) : Type 0 where
+  pub asked : queryOf query ≡ done q
+  pub signed : signOf set text ≡ done m
+
+-- condition n does not hold, and all before it do
+abbrev pub FirstUnmet : Query → Meaning → ℕ → Type 0
+FirstUnmet q m n = (Condition q m n → ⊥) × ((k : ℕ) → k < n → Condition q m k)
+
 pub record VerdictLaws : Type 0 where
+  -- a sign meets a query exactly when all the query's conditions hold
+  pub exactly : (set : Charset) (query text : List ℕ)
+      → (verdictIn set query text .met ≡ true) ↔ ((q : Query) × ((m : Meaning) × (Reads set query text q m × Meets q m)))
+  -- it is told that condition n is unmet exactly when n is the first that does not hold
+  pub first-unmet : (set : Charset) (query text : List ℕ) (n : ℕ)
+      → ((verdictIn set query text .number ≡ 0) × ((verdictIn set query text .met ≡ false) × (verdictIn set query text .unmet ≡ n)))
+      ↔ ((q : Query) × ((m : Meaning) × (Reads set query text q m × FirstUnmet q m n)))
+  -- where it is met each signbox item has its witness, the first symbol that serves it
+  pub witnesses : (set : Charset) (query text : List ℕ) (q : Query) (m : Meaning) → Reads set query text q m → Meets q m
+      → (ws : List ℕ) × ((verdictIn set query text .witnesses ≡ padded 32 ws) × Pairwise (λ sought w. First (Serves (q .variance) sought) w (m .symbols)) (q .items) ws)
+  -- the verdict depends on the sign alone, and not on its character set
   pub alike : (set : Charset) (query text other : List ℕ) → transcription set text ≡ done other → verdictIn (otherSet set) query other ≡ verdictIn set query text

@@ -3,6 +3,7 @@ ghost use mathlib.Core.Path.{_≡_};
 ghost use Rattle.verdict.specs.Verdict.{verdictIn};
 use charset::Charset;
 use matching::Verdict;
+use queryitem::words::WORDS;
 use token::refusal::DONE;
 
 pub mod judging;
@@ -11,43 +12,11 @@ pub mod judging;
 pub fn verdict(set: Charset, query: &[u8], text: &[u8]) -> Verdict
     ensures { λ r. ⌜ r ≡ verdictIn set (now (query .entry)) (now (text .entry)) ⌝ }
 {
-    let mut plo = [0u16; 32];
-    let mut phi = [0u16; 32];
-    let mut pturn = [0u16; 32];
-    let mut lo = [0u16; 32];
-    let mut hi = [0u16; 32];
-    let mut turn = [0u16; 32];
-    let mut qx = [0u16; 32];
-    let mut qy = [0u16; 32];
-    let q = query::arrays::read_into(
-        query,
-        &mut plo,
-        &mut phi,
-        &mut pturn,
-        &mut lo,
-        &mut hi,
-        &mut turn,
-        &mut qx,
-        &mut qy,
-    );
+    let mut words = [0u16; WORDS];
+    let q = query::words::read_into(query, &mut words);
     let number = q.number;
     if number != DONE {
         return judging::refused(number, q.place);
     }
-    judging::judge_text(
-        set,
-        text,
-        q.kind,
-        q.prefix_count,
-        &plo,
-        &phi,
-        &pturn,
-        q.item_count,
-        &lo,
-        &hi,
-        &turn,
-        &qx,
-        &qy,
-        q.variance,
-    )
+    judging::judge_text(set, text, &words)
 }

@@ -1,13 +1,18 @@
 -- What a call that writes a text answers and leaves in the lent memory, in each of its cases.
-use Prim.Native.Nat.{ℕ, _<_}
-use mathlib.Core.Path.{_≡_}
-use mathlib.Core.List.{List}
+use Prim.Native.Nat.{ℕ, _≤_, _<_}
+use mathlib.Core.Path.{_≡_, refl}
+use mathlib.Core.List.{List, _++_}
+use mathlib.Core.Bool.{Bool, true, false}
+use lib.Dec.{ltb}
 use borrow.Author.Tests.{lt-ltb, le-ltb}
-use lib.ListN.{length}
+use lib.ListN.{length, take, drop}
+use lib.Seq.{take-append-seam}
 use native.Mathlib.Omega.{arith}
+use Rattle.format.specs.Format.{choose}
 use Rattle.token.specs.declared.Written.{Written}
 use Rattle.token.specs.Refusal.{roomShort}
-use Rattle.token.specs.Result.{Result, refusal, done, written, output}
+use Rattle.token.specs.Result.{Result, refusal, done, writtenAs, leftAs, written, output}
+use Rattle.token.proofs.Checks.{Counted}
 use Rattle.token.specs.Wrote.{Wrote}
 use Rattle.writer.proofs.Writes.{wrote-all}
 
@@ -33,3 +38,25 @@ unfolding written output
 answers-done {o} {text = text} e w =
     let h = le-ltb (length o) (length text) (omega arith) in
     (rw (e, h, wrote-all w .0), rw (e, h) (wrote-all w .1))
+
+-- a call that has room for its text
+pub answers-room : (o : List ℕ) {x : Result (List ℕ)} {text : List ℕ} → x ≡ done text → length text ≤ length o
+    → Answers o x (record { number = 0; place = 0; length = length text }) (text ++ drop (length text) o)
+unfolding written output
+answers-room o {text = text} e l = let h = le-ltb (length o) (length text) l in (rw (e, h), rw (e, h))
+
+-- a call whose number is 0 wrote its text at the start
+pub record Accepted (o : List ℕ) (x : Result (List ℕ)) : Type 0 where
+  pub text : List ℕ
+  pub is : x ≡ done text
+  pub front : take (written o x .length) (output o x) ≡ text
+
+accepted-go : (o text : List ℕ) (short : Bool) → writtenAs (choose short (refusal roomShort (length text)) (done text)) .number ≡ 0
+    → take (writtenAs (choose short (refusal roomShort (length text)) (done text)) .length) (leftAs o (choose short (refusal roomShort (length text)) (done text))) ≡ text
+accepted-go o text true z = absurd (omega (arith, z))
+accepted-go o text false z = take-append-seam text (drop (length text) o)
+
+pub accepted : (o : List ℕ) (x : Result (List ℕ)) → Counted x → written o x .number ≡ 0 → Accepted o x
+unfolding written output
+accepted o (refusal n p) c z = absurd (omega (arith, c n p refl, z))
+accepted o (done text) c z = record { text = text; is = refl; front = accepted-go o text (ltb (length o) (length text)) z }

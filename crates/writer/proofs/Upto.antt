@@ -1,7 +1,7 @@
 -- The first n values of a function, their text in a format, and a loop that writes it value by value.
 use Prim.Native.Nat.{ℕ, zero, suc, _+_, _*_, _≤_, _<_}
 use mathlib.Core.Path.{_≡_, refl, sym, ap, _∙_}
-use mathlib.Core.List.{List, [], _∷_, _++_, append-assoc, append-nil, map}
+use mathlib.Core.List.{List, [], _∷_, _++_, append-assoc, append-nil, map, map-append}
 use mathlib.Core.Logic.{⊎-elim}
 use native.Mathlib.Nat.{suc-mul, mul-le-mul-right, eq-or-lt-of-le}
 use native.Mathlib.Numerals.{add-one}
@@ -19,10 +19,6 @@ upto-length g (suc n) =
     let e = length-append (upto g n) (g n ∷ []) in
     let h = upto-length g n in
     omega arith
-
-map-append : {A B : Type 0} (h : A → B) (l m : List A) → map h (l ++ m) ≡ map h l ++ map h m
-map-append h [] m = refl
-map-append h (a ∷ l) m = ap (λ k. h a ∷ k) (map-append h l m)
 
 pub map-upto : {A B : Type 0} (h : A → B) (g : ℕ → A) (n : ℕ) → map h (upto g n) ≡ upto (λ i. h (g i)) n
 unfolding upto

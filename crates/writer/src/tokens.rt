@@ -4,10 +4,13 @@ ghost use mathlib.Core.List.{[], _∷_};
 ghost use Prim.Native.Nat.{_+_, _*_, _≤_, _<_};
 ghost use lib.ListN.{length};
 ghost use Rattle.charset.specs.Bytes.{digitByte, markerByte, utf8, digits};
-ghost use Rattle.charset.specs.Tokens.{tokens};
+ghost use Rattle.charset.specs.Tokens.{tokens, lastCode, lastPunctuation};
 ghost use Rattle.token.specs.Symbol.{anySymbol};
 ghost use Rattle.token.specs.Wrote.{Wrote};
 use charset::Charset;
+use token::reading::MARKERS;
+use token::reading::NUMBERS;
+use token::reading::SYMBOLS;
 
 pub fn put_byte(out: &mut [u8], at: usize, b: u8) -> usize
     requires { ⌜ at < length (now out) ⌝ }
@@ -48,7 +51,7 @@ fn put_three(out: &mut [u8], at: usize, p: u16, q: u16, n: u16) -> usize
 
 // The key of a symbol, or of null.
 fn put_key(out: &mut [u8], at: usize, code: u16) -> usize
-    requires { ⌜ (at + 6 ≤ length (now out)) × (code ≤ 62592) ⌝ }
+    requires { ⌜ (at + 6 ≤ length (now out)) × (code ≤ lastCode lastPunctuation) ⌝ }
     ensures { λ r. ⌜ Wrote (now (out .entry)) (now (out .exit)) at r (anySymbol Charset.Fsw .write code) ⌝ }
 {
     let mut base: u16 = 0;
@@ -99,18 +102,18 @@ pub fn put_marker(set: Charset, out: &mut [u8], at: usize, m: u16) -> usize
 {
     match set {
         Charset::Fsw => put_byte(out, at, marker_byte(m)),
-        Charset::Swu => put_character(out, at, 0x1d800 + m as u32),
+        Charset::Swu => put_character(out, at, MARKERS + m as u32),
     }
 }
 
 // A symbol, or null, by its code.
 pub fn put_symbol(set: Charset, out: &mut [u8], at: usize, code: u16) -> usize
-    requires { ⌜ (at + tokens set .symbolSize ≤ length (now out)) × (code ≤ 62592) ⌝ }
+    requires { ⌜ (at + tokens set .symbolSize ≤ length (now out)) × (code ≤ lastCode lastPunctuation) ⌝ }
     ensures { λ r. ⌜ Wrote (now (out .entry)) (now (out .exit)) at r (anySymbol set .write code) ⌝ }
 {
     match set {
         Charset::Fsw => put_key(out, at, code),
-        Charset::Swu => put_character(out, at, 0x40000 + code as u32),
+        Charset::Swu => put_character(out, at, SYMBOLS + code as u32),
     }
 }
 
@@ -121,7 +124,7 @@ pub fn put_number(set: Charset, out: &mut [u8], at: usize, n: u16) -> usize
 {
     match set {
         Charset::Fsw => put_three(out, at, 100, 10, n),
-        Charset::Swu => put_character(out, at, 0x1d80c - 250 + n as u32),
+        Charset::Swu => put_character(out, at, NUMBERS + n as u32),
     }
 }
 
@@ -135,6 +138,6 @@ pub fn put_second(set: Charset, out: &mut [u8], at: usize, n: u16) -> usize
             let next = put_byte(out, at, b'x');
             put_three(out, next, 100, 10, n)
         }
-        Charset::Swu => put_character(out, at, 0x1d80c - 250 + n as u32),
+        Charset::Swu => put_character(out, at, NUMBERS + n as u32),
     }
 }

@@ -3,8 +3,11 @@
 /// A signbox symbol at its coordinate.
 #[derive(Clone, Copy, Debug, PartialEq, Eq)]
 pub struct Placed {
+    /// From 1 to 61,344: a writing symbol.
     pub code: u16,
+    /// From 250 to 749, as read.
     pub x: u16,
+    /// From 250 to 749, as read.
     pub y: u16,
 }
 
@@ -61,9 +64,13 @@ impl Sign {
 /// Least x and y of some symbols, and greatest x + width and y + height.
 #[derive(Clone, Copy, Debug, PartialEq, Eq)]
 pub struct Bounds {
+    /// The least x.
     pub left: u16,
+    /// The least y.
     pub top: u16,
+    /// The greatest x + width.
     pub right: u16,
+    /// The greatest y + height.
     pub bottom: u16,
 }
 
@@ -86,8 +93,11 @@ impl Bounds {
 /// The boxes and the centre of a sign that has a symbol.
 #[derive(Clone, Copy, Debug, PartialEq)]
 pub struct Boxes {
+    /// The box of the head symbols, if there is one.
     pub head: Option<Bounds>,
+    /// The box of the head and trunk symbols, if there is one.
     pub head_and_trunk: Option<Bounds>,
+    /// The box of all symbols.
     pub all: Bounds,
     centre: (f32, f32),
     doubled_centre: (u16, u16),
@@ -104,7 +114,7 @@ impl Boxes {
         }
     }
 
-    /// x then y.
+    /// The centre, x then y.
     pub fn centre(&self) -> (f32, f32) {
         self.centre
     }
@@ -140,14 +150,19 @@ impl Verdict {
 /// The counts of a narrowing call: together the count that it was given.
 #[derive(Clone, Copy, Debug, PartialEq, Eq)]
 pub struct Narrowed {
+    /// How many entries meet the query: they come first in the list.
     pub kept: usize,
+    /// How many do not: as many zeros follow.
     pub dropped: usize,
 }
 
 /// A line and where it lies.
 #[derive(Clone, Copy, Debug, PartialEq, Eq)]
 pub struct Fetched<'a> {
+    /// Whether the second dictionary holds it, and not the first.
     pub in_second: bool,
+    /// Where it starts there.
     pub start: usize,
+    /// The line without its byte 10, as a part of its dictionary.
     pub line: &'a [u8],
 }

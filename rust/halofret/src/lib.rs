@@ -16,6 +16,8 @@
 //! # Ok::<(), halofret::Refusal>(())
 //! ```
 
+#![deny(missing_docs)]
+
 mod answers;
 pub mod raw;
 mod refusal;

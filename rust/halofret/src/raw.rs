@@ -1,17 +1,23 @@
 //! The C interface as `include/halofret.h` declares it.
 //!
 //! Nothing compares these lines with the library, so they are kept in the header's
-//! order and in its names. Lent memory must not overlap.
+//! order and in its names; the header says what each function writes. Lent memory must
+//! not overlap, and a pointer may be null only where its length is 0.
 
 extern "C" {
+    /// The code of a symbol key.
     pub fn halofret_key_to_code(key: *const u8, key_len: usize, answer: *mut [u64; 3]);
 
+    /// The code of a symbol character.
     pub fn halofret_char_to_code(chr: *const u8, chr_len: usize, answer: *mut [u64; 3]);
 
+    /// Writes the key of a code.
     pub fn halofret_code_to_key(code: u64, out: *mut u8, room: usize, answer: *mut [u64; 3]);
 
+    /// Writes the character of a code.
     pub fn halofret_code_to_char(code: u64, out: *mut u8, room: usize, answer: *mut [u64; 3]);
 
+    /// Reads a sign.
     pub fn halofret_read(
         swu: bool,
         text: *const u8,
@@ -20,6 +26,7 @@ extern "C" {
         answer: *mut [u64; 2],
     );
 
+    /// Writes a sign in the other character set.
     pub fn halofret_transcribe(
         swu: bool,
         text: *const u8,
@@ -29,6 +36,7 @@ extern "C" {
         answer: *mut [u64; 3],
     );
 
+    /// The boxes and the centre of a sign.
     pub fn halofret_boxes(
         swu: bool,
         text: *const u8,
@@ -39,6 +47,7 @@ extern "C" {
         answer: *mut [u64; 19],
     );
 
+    /// Writes a sign moved by a pair.
     pub fn halofret_shift(
         swu: bool,
         text: *const u8,
@@ -50,6 +59,7 @@ extern "C" {
         answer: *mut [u64; 3],
     );
 
+    /// Writes a sign centred on 500 by 500.
     pub fn halofret_centred(
         swu: bool,
         text: *const u8,
@@ -61,8 +71,10 @@ extern "C" {
         answer: *mut [u64; 3],
     );
 
+    /// Says whether a query can be read.
     pub fn halofret_read_query(query: *const u8, query_len: usize, answer: *mut [u64; 2]);
 
+    /// Says whether a sign meets a query.
     pub fn halofret_verdict(
         swu: bool,
         query: *const u8,
@@ -72,6 +84,7 @@ extern "C" {
         answer: *mut [u64; 36],
     );
 
+    /// Fills a list with the entries of a dictionary.
     pub fn halofret_open(
         swu: bool,
         dict: *const u8,
@@ -81,6 +94,7 @@ extern "C" {
         answer: *mut [u64; 3],
     );
 
+    /// Keeps the entries of a list that meet a query.
     pub fn halofret_narrow(
         swu: bool,
         dict: *const u8,
@@ -93,6 +107,7 @@ extern "C" {
         answer: *mut [u64; 4],
     );
 
+    /// Finds a line in two dictionaries.
     pub fn halofret_fetch(
         first: *const u8,
         first_len: usize,

@@ -1,7 +1,7 @@
 //! Reading a query, and its verdict on a sign (document 01, "A query").
 
 use crate::sign::{read_into, Placed, Sign};
-use crate::symbol::{base_of, Key, LAST_BASE};
+use crate::symbol::{first_code_of, last_code_of, rotation_of, Key, LAST_BASE};
 use crate::text::{Bytes, Tokens};
 use crate::{refuse, Answer, Charset};
 
@@ -9,41 +9,55 @@ use crate::{refuse, Answer, Charset};
 pub const MOST_ITEMS: usize = 32;
 const USUAL_VARIANCE: u16 = 20;
 
-/// What one symbol must be.
+/// What one symbol must be: its code lies between the two, ends included. The null symbol,
+/// code 0, lies between no two.
 #[derive(Clone, Copy, Debug, PartialEq, Eq)]
-enum Item {
-    /// A part that is `None` may be anything.
-    Symbol {
-        base: u16,
-        fill: Option<u16>,
-        rotation: Option<u16>,
-    },
-    /// Bases, both ends included.
-    Range { first: u16, last: u16 },
+struct Item {
+    first: u16,
+    last: u16,
+    /// Asked for by itself where the fill may be anything.
+    rotation: Option<u16>,
 }
 
 impl Item {
-    fn fits(self, code: u16) -> bool {
-        if code == 0 {
-            return false;
-        }
-        match self {
-            Item::Range { first, last } => (first..=last).contains(&base_of(code)),
-            Item::Symbol {
+    const NONE: Item = Item {
+        first: 1,
+        last: 0,
+        rotation: None,
+    };
+
+    /// A part that is `None` may be anything.
+    fn symbol(base: u16, fill: Option<u16>, rotation: Option<u16>) -> Item {
+        let code = |fill, rotation| {
+            let key = Key {
                 base,
                 fill,
                 rotation,
-            } => {
-                let key = Key::of(code);
-                key.base == base
-                    && fill.is_none_or(|fill| fill == key.fill)
-                    && rotation.is_none_or(|rotation| rotation == key.rotation)
-            }
+            };
+            key.code()
+        };
+        Item {
+            first: code(fill.unwrap_or(0), rotation.unwrap_or(0)),
+            last: code(fill.unwrap_or(5), rotation.unwrap_or(15)),
+            rotation,
         }
     }
-}
 
-const NO_ITEM: Item = Item::Range { first: 1, last: 0 };
+    /// Bases, both ends included.
+    fn range(first: u16, last: u16) -> Item {
+        Item {
+            first: first_code_of(first),
+            last: last_code_of(last),
+            rotation: None,
+        }
+    }
+
+    fn fits(self, code: u16) -> bool {
+        self.first <= code
+            && code <= self.last
+            && self.rotation.is_none_or(|asked| rotation_of(code) == asked)
+    }
+}
 
 /// What the query asks of the prefix.
 #[derive(Clone, Copy, Debug, PartialEq, Eq)]
@@ -67,8 +81,8 @@ pub struct Query {
 impl Query {
     const EMPTY: Query = Query {
         prefix: Prefix::Anything,
-        prefix_items: [NO_ITEM; MOST_ITEMS],
-        items: [(NO_ITEM, None); MOST_ITEMS],
+        prefix_items: [Item::NONE; MOST_ITEMS],
+        items: [(Item::NONE, None); MOST_ITEMS],
         item_count: 0,
         variance: USUAL_VARIANCE,
     };
@@ -152,11 +166,10 @@ impl Reader<'_> {
             return self.range();
         }
         self.bytes.literal(b'S')?;
-        Ok(Item::Symbol {
-            base: self.bytes.base(LAST_BASE)?,
-            fill: self.digit_or_any(6)?,
-            rotation: self.digit_or_any(16)?,
-        })
+        let base = self.bytes.base(LAST_BASE)?;
+        let fill = self.digit_or_any(6)?;
+        let rotation = self.digit_or_any(16)?;
+        Ok(Item::symbol(base, fill, rotation))
     }
 
     fn range(&mut self) -> Answer<Item> {
@@ -168,7 +181,7 @@ impl Reader<'_> {
         if last < first {
             self.first_reversed.get_or_insert(place);
         }
-        Ok(Item::Range { first, last })
+        Ok(Item::range(first, last))
     }
 
     fn digit_or_any(&mut self, radix: u16) -> Answer<Option<u16>> {

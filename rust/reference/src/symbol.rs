@@ -28,7 +28,7 @@ pub(crate) struct Key {
 
 impl Key {
     pub fn code(self) -> u16 {
-        (self.base - FIRST_BASE) * CODES_A_BASE + self.fill * 16 + self.rotation + 1
+        first_code_of(self.base) + self.fill * 16 + self.rotation
     }
 
     /// The key of a code other than null's.
@@ -37,14 +37,24 @@ impl Key {
         Key {
             base: base_of(code),
             fill: index % CODES_A_BASE / 16,
-            rotation: index % 16,
+            rotation: rotation_of(code),
         }
     }
+}
+
+/// The rotation of a code other than null's.
+pub(crate) fn rotation_of(code: u16) -> u16 {
+    (code - 1) % 16
 }
 
 /// The base of a code other than null's.
 pub(crate) fn base_of(code: u16) -> u16 {
     FIRST_BASE + (code - 1) / CODES_A_BASE
+}
+
+/// The first code of a base.
+pub(crate) const fn first_code_of(base: u16) -> u16 {
+    (base - FIRST_BASE) * CODES_A_BASE + 1
 }
 
 /// The last code of a base.

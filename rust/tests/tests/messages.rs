@@ -1,28 +1,160 @@
-//! The wrapper says each refusal in one sentence.
+//! What the wrapper says of each refusal, and that each reaches the caller with the number and
+//! the place of document 01, "Refusal numbers".
 
-use halofret::Refusal;
-use std::collections::HashSet;
+use differential::generate::in_swu;
+use halofret::{raw, Charset, Refusal};
+use std::ptr;
+
+static SIZES: [u8; 125_184] = [9; 125_184];
+
+/// What each sentence says, by number; the place is 7.
+const SAID: [&[&str]; 16] = [
+    &["text is wrong", "byte offset 7"],
+    &["stops too early", "7 bytes"],
+    &["prefix", "more than 32"],
+    &["more than 64 symbols", "more than 32 signbox items"],
+    &["range at byte offset 7", "ends below its own start"],
+    &["output or list is too short", "7 are needed"],
+    &["size list", "125,184 bytes"],
+    &["Symbol 7", "has no size"],
+    &["without symbols", "no box"],
+    &["leave 250 to 749"],
+    &["more than the list holds", "do not rise", "line count"],
+    &["last line", "not ended by byte 10"],
+    &["Line 7", "does not read as a sign"],
+    &["over its limits", "65,535 lines"],
+    &["code is over 62,592"],
+    &["Neither dictionary", "entry"],
+];
 
 #[test]
-fn each_refusal_has_its_own_sentence() {
-    let mut sentences = HashSet::new();
-    for number in 1..=16 {
+fn each_sentence_says_its_refusal() {
+    for (number, said) in (1..).zip(SAID) {
         let sentence = Refusal { number, place: 7 }.to_string();
         assert!(sentence.ends_with('.'), "{sentence}");
-        assert!(!sentence.contains("unknown"), "{sentence}");
-        assert!(sentences.insert(sentence));
+        for part in said {
+            assert!(sentence.contains(part), "{number}: {sentence}");
+        }
     }
 }
 
+/// The number and the place of a refused call.
+fn refused<T>(answer: Result<T, Refusal>) -> (u8, usize) {
+    answer.map_or_else(|refusal| (refusal.number, refusal.place), |_| (0, 0))
+}
+
 #[test]
-fn a_refusal_tells_the_room_needed() {
-    let refusal = halofret::code_to_key(26, &mut []).unwrap_err();
+fn each_refusal_reaches_the_caller() {
+    let set = Charset::Fsw;
+    let read = |text: &str| refused(halofret::read(set, text.as_bytes()));
+    let query = |text: &str| refused(halofret::read_query(text.as_bytes()));
+    assert_eq!(read("M749x750"), (1, 6));
+    assert_eq!(read("M250x25"), (2, 7));
+    assert_eq!(read(&format!("A{}M500x500", "S10000".repeat(33))), (3, 0));
+    assert_eq!(query(&format!("QA{}T", "S10000".repeat(33))), (3, 0));
+    let many = |count| format!("M500x500{}", "S10000500x500".repeat(count));
+    assert_eq!((read(&many(64)), read(&many(65))), ((0, 0), (4, 0)));
+    assert_eq!(query(&format!("Q{}", "S10000".repeat(33))), (4, 0));
+    assert_eq!(query("QS10000R204t100"), (5, 7));
+    let sign = b"M500x500S10000500x500";
     assert_eq!(
-        refusal,
-        Refusal {
-            number: 6,
-            place: 6
-        }
+        refused(halofret::transcribe(set, sign, &mut [0; 23])),
+        (6, 24)
     );
-    assert!(refusal.to_string().contains("6 are needed"));
+    assert_eq!(refused(halofret::boxes(set, sign, &SIZES[1..])), (7, 0));
+    let mut unsized_second = SIZES;
+    unsized_second[2 * 25_056] = 0;
+    let two = b"M500x500S10000500x500S20500500x500";
+    assert_eq!(refused(halofret::boxes(set, two, &unsized_second)), (8, 2));
+    assert_eq!(refused(halofret::boxes(set, b"M500x500", &SIZES)), (9, 0));
+    assert_eq!(
+        refused(halofret::shift(set, sign, 250, 0, &mut [0; 21])),
+        (10, 0)
+    );
+    let code = |code| refused(halofret::code_to_key(code, &mut [0; 6]));
+    assert_eq!((code(62_592), code(62_593)), ((0, 0), (15, 0)));
+}
+
+#[test]
+fn each_refusal_of_a_dictionary_reaches_the_caller() {
+    let set = Charset::Fsw;
+    let open = |dictionary: &[u8]| refused(halofret::open(set, dictionary, &mut [0; 2]));
+    let narrow = |list: &mut [u16], count, query: &[u8]| {
+        refused(halofret::narrow(set, b"M500x500\nM\n", list, count, query))
+    };
+    assert_eq!(open(b"M500x500\nM500x500\nM500x500\n"), (6, 3));
+    assert_eq!(narrow(&mut [1], 2, b"Q"), (11, 0));
+    assert_eq!(narrow(&mut [1, 1], 2, b"Q"), (11, 0));
+    assert_eq!(narrow(&mut [1, 2], 2, b"Q"), (13, 2));
+    assert_eq!(narrow(&mut [1, 2], 1, b"Q"), (0, 0));
+    assert_eq!(narrow(&mut [1], 2, b"QR204t100"), (5, 1));
+    assert_eq!(open(b"M500x500\nM500x500"), (12, 0));
+    assert_eq!(open(b"M500x500\nM\n"), (13, 2));
+    assert_eq!(open(&[10; 65_536]), (14, 0));
+    let fetch = |number| refused(halofret::fetch(b"M\n", b"M\n", number));
+    assert_eq!([0, 1, 2, 3].map(fetch), [(16, 0), (0, 0), (0, 0), (16, 0)]);
+    assert_eq!(refused(halofret::fetch(b"M\n", b"M", 1)), (12, 0));
+}
+
+#[test]
+fn refusals_of_swu_have_their_places_in_bytes() {
+    let mut text = in_swu(b"M500x500").unwrap();
+    assert_eq!(refused(halofret::read(Charset::Swu, &text)), (0, 0));
+    text.extend(b"abcdef");
+    assert_eq!(refused(halofret::read(Charset::Swu, &text)), (1, 12));
+    assert_eq!(refused(halofret::read(Charset::Swu, &text[..15])), (2, 15));
+}
+
+#[test]
+fn empty_slices() {
+    for set in differential::BOTH_SETS {
+        assert_eq!(refused(halofret::read(set, &[])), (2, 0));
+        assert_eq!(refused(halofret::transcribe(set, &[], &mut [])), (2, 0));
+        assert_eq!(refused(halofret::verdict(set, b"Q", &[])), (2, 0));
+        assert_eq!(halofret::open(set, &[], &mut []), Ok(0));
+        let narrowed = halofret::narrow(set, &[], &mut [], 0, b"Q").unwrap();
+        assert_eq!((narrowed.kept, narrowed.dropped), (0, 0));
+    }
+    assert_eq!(refused(halofret::key_to_code(&[])), (2, 0));
+    assert_eq!(refused(halofret::char_to_code(&[])), (2, 0));
+    assert_eq!(refused(halofret::code_to_key(26, &mut [])), (6, 6));
+    assert_eq!(refused(halofret::code_to_char(26, &mut [])), (6, 4));
+    assert_eq!(refused(halofret::read_query(&[])), (2, 0));
+    assert_eq!(refused(halofret::fetch(&[], &[], 1)), (16, 0));
+}
+
+/// A null pointer of length 0 is an empty slice, as the header says.
+#[test]
+fn null_pointers() {
+    let (none, no_bytes, no_list) = (ptr::null(), ptr::null_mut(), ptr::null_mut());
+    let query = b"Q";
+    let (mut three, mut four, mut two) = ([9; 3], [9; 4], [9; 2]);
+    let (mut sign, mut centre, mut nineteen) = ([9; 229], [9.0; 2], [9; 19]);
+    // SAFETY: a null pointer goes with length 0, every other with its own length.
+    unsafe {
+        raw::halofret_key_to_code(none, 0, &mut three);
+        assert_eq!(three, [2, 0, 0]);
+        raw::halofret_code_to_key(26, no_bytes, 0, &mut three);
+        assert_eq!(three, [6, 6, 0]);
+        raw::halofret_transcribe(false, none, 0, no_bytes, 0, &mut three);
+        assert_eq!(three, [2, 0, 0]);
+        raw::halofret_read(true, none, 0, &mut sign, &mut two);
+        assert_eq!((two, sign), ([2, 0], [9; 229]));
+        raw::halofret_boxes(
+            false,
+            b"M500x500".as_ptr(),
+            8,
+            none,
+            0,
+            &mut centre,
+            &mut nineteen,
+        );
+        assert_eq!((nineteen[0], centre), (7, [9.0; 2]));
+        raw::halofret_open(false, none, 0, no_list, 0, &mut three);
+        assert_eq!(three, [0, 0, 0]);
+        raw::halofret_narrow(false, none, 0, no_list, 0, 0, query.as_ptr(), 1, &mut four);
+        assert_eq!(four, [0, 0, 0, 0]);
+        raw::halofret_fetch(none, 0, b"M\n".as_ptr(), 2, 1, &mut four);
+        assert_eq!(four, [0, 1, 0, 1]);
+    }
 }

@@ -1,10 +1,10 @@
-use Prim.Native.Nat.{_-_}
+use Prim.Native.Nat.{_+_, _-_, _<_}
 use mathlib.Core.Path.{_≡_, refl}
 use native.Mathlib.Omega.{arith}
 use lib.ListN.{length}
 use borrow.Author.Needs.{needs}
 use Rattle.lines.specs.Lines.{lines}
-use Rattle.lines.proofs.Starts.{start-within}
+use Rattle.lines.proofs.Starts.{Line, start-within}
 use Rattle.run.specs.Run.{run}
 use Rattle.dictionary.specs.Narrowing.{narrowed}
 use Rattle.runs.proofs.Running.{Running, running-start, running-end, running-line, running-dropped, running-more}
@@ -19,63 +19,55 @@ abbrev μ-loop : tie.MeasureT-loop
 μ-loop set dict list₀ n queries calls kept₀ dropped₀ start₀ made₀ list kept dropped start made =
     calls - made
 
--- src/lib.rt:44:9
 count-requires : tie.Need-count-requires Inv-loop μ-loop
 count-requires c κs = search needs
 
--- src/lib.rt:49:5
 loop-holds : tie.Need-loop-holds Inv-loop μ-loop
 loop-holds c = (running-start _ _ _ _, refl)
 
--- src/lib.rt:50:13
 line-end-requires : tie.Need-line-end-requires Inv-loop μ-loop
 line-end-requires c κs = omega (arith, start-within _ _ _ (omega arith) (omega (arith, c .loop-test .taken, c .before .before .count .ensures)) (c .before .loop .inv .0 .here))
 
--- src/lib.rt:51:52
+-- there is a query to be asked, and it lies here
+asked : (c : tie.After-line-end Inv-loop μ-loop) → c .before .before .loop .made < length (lines (c .before .before .before .before .before .before .before .args .queries .now))
+asked c = omega (arith, c .before .before .before .count .ensures)
+
+here : (c : tie.After-line-end Inv-loop μ-loop) → Line (c .before .before .before .before .before .before .before .args .queries .now) (c .before .before .loop .made + 1) (c .before .before .loop .start) (c .line-end .result)
+here c = running-line (c .before .before .loop .inv .0) (asked c) _ (c .line-end .ensures)
+
 sub-narrow : tie.Need-sub-narrow Inv-loop μ-loop
-sub-narrow c = omega (arith, (running-line (c .before .before .before .loop .inv .0) (omega (arith, c .before .before .before .before .count .ensures)) _ (c .before .line-end .ensures)) .low)
+sub-narrow c = omega (arith, here (c .before) .low)
 
--- src/lib.rt:51:52
 part-narrow-start : tie.Need-part-narrow-start Inv-loop μ-loop
-part-narrow-start c = omega (arith, (running-line (c .before .before .before .loop .inv .0) (omega (arith, c .before .before .before .before .count .ensures)) _ (c .before .line-end .ensures)) .low)
+part-narrow-start c = omega (arith, here (c .before) .low)
 
--- src/lib.rt:51:52
 part-narrow-end : tie.Need-part-narrow-end Inv-loop μ-loop
-part-narrow-end c = omega (arith, (running-line (c .before .before .before .loop .inv .0) (omega (arith, c .before .before .before .before .count .ensures)) _ (c .before .line-end .ensures)) .high)
+part-narrow-end c = omega (arith, here (c .before) .high)
 
--- src/lib.rt:51:13
 narrow-requires : tie.Need-narrow-requires Inv-loop μ-loop
 narrow-requires c κs = search needs
 
--- src/lib.rt:53:9
 add-dropped : tie.Need-add-dropped Inv-loop μ-loop
-add-dropped c = omega (arith, running-dropped (c .before .before .before .before .before .before .before .loop .inv .0) (omega (arith, c .before .before .before .before .before .before .before .before .count .ensures)) (running-line (c .before .before .before .before .before .before .before .loop .inv .0) (omega (arith, c .before .before .before .before .before .before .before .before .count .ensures)) _ (c .before .before .before .before .before .line-end .ensures)) _ _ (c .before .before .narrow .ensures), c .before .before .before .before .before .before .before .before .before .before .before .before .pre)
+add-dropped c = omega (arith, running-dropped (c .before .before .before .before .before .before .before .loop .inv .0) (asked (c .before .before .before .before .before)) (here (c .before .before .before .before .before)) _ _ (c .before .before .narrow .ensures), c .before .before .before .before .before .before .before .before .before .before .before .before .pre)
 
--- src/lib.rt:54:9
 next-count-requires : tie.Need-next-count-requires Inv-loop μ-loop
 next-count-requires c κs = search needs
 
--- src/lib.rt:55:17
 add-start : tie.Need-add-start Inv-loop μ-loop
-add-start c = omega (arith, (running-line (c .before .before .before .before .before .before .before .before .loop .inv .0) (omega (arith, c .before .before .before .before .before .before .before .before .before .count .ensures)) _ (c .before .before .before .before .before .before .line-end .ensures)) .high)
+add-start c = omega (arith, here (c .before .before .before .before .before .before) .high)
 
--- src/lib.rt:56:9
 add-made : tie.Need-add-made Inv-loop μ-loop
 add-made c = omega arith
 
--- src/lib.rt:49:5
 loop-less : tie.Need-loop-less Inv-loop μ-loop
 loop-less c = omega arith
 
--- src/lib.rt:49:5
 loop-again : tie.Need-loop-again Inv-loop μ-loop
-loop-again c = (running-more (c .before .before .before .before .before .before .before .before .loop .inv .0) (omega (arith, c .before .before .before .before .before .before .before .before .before .count .ensures)) (running-line (c .before .before .before .before .before .before .before .before .loop .inv .0) (omega (arith, c .before .before .before .before .before .before .before .before .before .count .ensures)) _ (c .before .before .before .before .before .before .line-end .ensures)) _ _ (c .before .before .before .narrow .ensures) _ (c .next-count .ensures), omega arith)
+loop-again c = (running-more (c .before .before .before .before .before .before .before .before .loop .inv .0) (asked (c .before .before .before .before .before .before)) (here (c .before .before .before .before .before .before)) _ _ (c .before .before .before .narrow .ensures) _ (c .next-count .ensures), omega arith)
 
--- src/lib.rt:40:1
 same-length : tie.Need-same-length Inv-loop μ-loop
 same-length c = c .before .loop .inv .1
 
--- src/lib.rt:40:1
 returns : tie.Need-returns Inv-loop μ-loop
 returns c = running-end (c .before .loop .inv .0) (omega (arith, c .before .before .count .ensures, c .loop-test .left))
 

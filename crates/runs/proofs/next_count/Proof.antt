@@ -2,11 +2,9 @@ use Rattle.runs.proofs.Running.{next-kept, next-same}
 use Rattle.runs.proofs.next_count.Statement.{statement}
 use Rattle.runs.proofs.next_count.Tie as tie
 
--- src/lib.rt:34:9
 returns : tie.Need-returns
 returns c = next-kept _ _ (c .if1 .taken)
 
--- src/lib.rt:29:1
 returns-2 : tie.Need-returns-2
 returns-2 c = next-same _ _ (c .if1 .left)
 

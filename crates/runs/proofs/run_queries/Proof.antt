@@ -3,43 +3,33 @@ use borrow.Author.Needs.{needs}
 use Rattle.runs.proofs.run_queries.Statement.{statement}
 use Rattle.runs.proofs.run_queries.Tie as tie
 
--- src/lib.rt:71:9
 is-ended-requires : tie.Need-is-ended-requires
 is-ended-requires c κs = search needs
 
--- src/lib.rt:72:9
-not-run-requires : tie.Need-not-run-requires
-not-run-requires c κs = search needs
+not-narrowed-requires : tie.Need-not-narrowed-requires
+not-narrowed-requires c κs = search needs
 
--- src/lib.rt:72:9
 returns : tie.Need-returns
-returns c = unended _ _ _ _ _ (c .before .before .is-ended .ensures) (c .before .if1 .taken) _ (c .not-run .ensures)
+returns c = unended _ _ _ _ _ (c .before .before .is-ended .ensures) (c .before .if1 .taken) _ (c .not-narrowed .ensures)
 
--- src/lib.rt:74:9
 open-requires : tie.Need-open-requires
 open-requires c κs = search needs
 
--- src/lib.rt:79:9
-not-run-requires-2 : tie.Need-not-run-requires-2
-not-run-requires-2 c κs = search needs
+not-narrowed-requires-2 : tie.Need-not-narrowed-requires-2
+not-narrowed-requires-2 c κs = search needs
 
--- src/lib.rt:79:9
 same-length : tie.Need-same-length
 same-length c = search needs
 
--- src/lib.rt:79:9
 returns-2 : tie.Need-returns-2
-returns-2 c = not-opened _ _ _ _ _ (c .before .before .before .before .before .before .before .is-ended .ensures) (c .before .before .before .before .before .before .if1 .left) _ _ (c .before .before .before .before .«open» .ensures .0) (c .before .before .before .before .«open» .ensures .1) (c .before .if2 .taken) _ (c .not-run2 .ensures)
+returns-2 c = not-opened _ _ _ _ _ (c .before .before .before .before .before .before .before .is-ended .ensures) (c .before .before .before .before .before .before .if1 .left) _ _ (c .before .before .before .before .«open» .ensures .0) (c .before .before .before .before .«open» .ensures .1) (c .before .if2 .taken) _ (c .not-narrowed2 .ensures)
 
--- src/lib.rt:81:5
 narrow-each-requires : tie.Need-narrow-each-requires
 narrow-each-requires c κs = within _ _ _ _ _ (c .before .before .before .before .before .before .before .is-ended .ensures) (c .before .before .before .before .before .before .if1 .left) _ _ (c .before .before .before .before .«open» .ensures .0) (c .before .before .before .before .«open» .ensures .1) (c .before .if2 .left)
 
--- src/lib.rt:68:1
 same-length-2 : tie.Need-same-length-2
 same-length-2 c = search needs
 
--- src/lib.rt:68:1
 returns-3 : tie.Need-returns-3
 returns-3 c = ended-so _ _ _ _ _ (c .before .before .before .before .before .before .before .before .before .before .is-ended .ensures) (c .before .before .before .before .before .before .before .before .before .if1 .left) _ _ (c .before .before .before .before .before .before .before .«open» .ensures .0) (c .before .before .before .before .before .before .before .«open» .ensures .1) (c .before .before .before .before .if2 .left) _ _ (c .before .before .narrow-each .ensures)
 
@@ -48,10 +38,10 @@ run-queries-spec =
     tie.close
     (tie.spec
     is-ended-requires
-    not-run-requires
+    not-narrowed-requires
     returns
     open-requires
-    not-run-requires-2
+    not-narrowed-requires-2
     same-length
     returns-2
     narrow-each-requires

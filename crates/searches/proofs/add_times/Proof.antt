@@ -2,15 +2,14 @@ use Prim.Native.Nat.{_-_, _≤_}
 use mathlib.Core.Path.{_≡_}
 use lib.ListN.{length}
 use native.Mathlib.Omega.{arith}
-use Rattle.searches.proofs.Parts.{part}
 use Rattle.searches.proofs.add_times.Statement.{statement}
 use Rattle.searches.proofs.add_times.Tie as tie
 
 abbrev Inv-loop : tie.InvT-loop
-Inv-loop input₀ at piece times next₀ i₀ input next i = (i ≤ times) × (next ≤ length input) × (length input ≡ length input₀)
+Inv-loop input₀ at piece n next₀ i₀ input next i = (i ≤ n) × (next ≤ length input) × (length input ≡ length input₀)
 
 abbrev μ-loop : tie.MeasureT-loop
-μ-loop input₀ at piece times next₀ i₀ input next i = times - i
+μ-loop input₀ at piece n next₀ i₀ input next i = n - i
 
 loop-holds : tie.Need-loop-holds Inv-loop μ-loop
 loop-holds c = omega arith
@@ -31,7 +30,7 @@ same-length : tie.Need-same-length Inv-loop μ-loop
 same-length c = omega arith
 
 returns : tie.Need-returns Inv-loop μ-loop
-returns c = part _ _ (omega arith)
+returns c = omega arith
 
 pub add-times-spec : {M : Type 1} → statement M
 add-times-spec =

@@ -1,36 +1,30 @@
-use Rattle.verdict.proofs.Answers.{query-asked}
+use mathlib.Core.Path.{refl}
+use Rattle.verdict.proofs.Answers.{query-held}
 use Rattle.dictionary.proofs.Narrowings.{with-refused, with-done}
 use borrow.Author.Needs.{needs}
 use Rattle.dictionary.proofs.narrowing.narrow_with.Statement.{statement}
 use Rattle.dictionary.proofs.narrowing.narrow_with.Tie as tie
 
--- src/narrowing.rt:118:9
 read-into-requires : tie.Need-read-into-requires
 read-into-requires c κs = search needs
 
--- src/narrowing.rt:131:9
 not-narrowed-requires : tie.Need-not-narrowed-requires
 not-narrowed-requires c κs = search needs
 
--- src/narrowing.rt:131:9
 returns : tie.Need-returns
-returns c = with-refused (c .before .before .read-into .ensures) _ _ _ _ _ (c .before .if1 .taken) (c .not-narrowed .ensures)
+returns c = (with-refused (c .before .before .read-into .ensures) _ _ _ _ _ (c .before .if1 .taken) (c .not-narrowed .ensures), refl)
 
--- src/narrowing.rt:133:5
 narrow-by-requires : tie.Need-narrow-by-requires
-narrow-by-requires c κs = (c .before .before .before .before .before .before .before .before .before .before .before .before .before .before .before .before .before .before .before .before .before .before .before .before .pre, query-asked _ _ _ _ _ _ _ _ _ _ (c .before .before .before .before .before .before .before .before .before .before .before .read-into .ensures) (c .before .before .before .before .before .before .before .before .before .before .if1 .left))
+narrow-by-requires c κs = (c .before .before .before .before .before .before .before .before .before .before .pre, query-held _ _ _ (c .before .before .before .before .read-into .ensures) (c .before .before .before .if1 .left) .laid)
 
--- src/narrowing.rt:99:1
 same-length : tie.Need-same-length
 same-length c = search needs
 
--- src/narrowing.rt:99:1
 same-length-2 : tie.Need-same-length-2
 same-length-2 c = search needs
 
--- src/narrowing.rt:99:1
 returns-2 : tie.Need-returns-2
-returns-2 c = with-done (c .before .before .before .before .before .before .before .before .before .before .before .before .before .before .before .before .read-into .ensures) _ _ _ _ (c .before .before .before .before .before .before .before .before .before .before .before .before .before .before .before .if1 .left) _ _ (c .before .before .before .before .narrow-by .ensures)
+returns-2 c = (with-done (c .before .before .before .before .before .before .before .before .before .read-into .ensures) _ _ _ _ (c .before .before .before .before .before .before .before .before .if1 .left) _ _ (c .before .before .before .before .narrow-by .ensures .0), c .before .before .before .before .narrow-by .ensures .1)
 
 pub narrow-with-spec : {M : Type 1} → statement M
 narrow-with-spec =

@@ -1,80 +1,50 @@
 use Prim.Native.Nat.{_-_}
 use native.Mathlib.Omega.{arith}
-use Rattle.matching.specs.Inner.{HoldsQuery}
-use Rattle.lines.proofs.Starts.{start-within}
-use Rattle.entries.proofs.Walk.{Judging, judging-start, judging-end, judging-entry, judging-line, judging-wrong, judging-more, byte-flag}
+use Rattle.entries.proofs.Walk.{Walking, walking-start, walking-long, walking-end, walking-within, walking-line, walking-on}
 use Rattle.entries.proofs.judging.judge_listed.Statement.{statement}
 use Rattle.entries.proofs.judging.judge_listed.Tie as tie
 
 abbrev Inv-loop : tie.InvT-loop
-Inv-loop set dict list n kind m plo phi pturn k lo hi turn qx qy variance flags₀ start₀ last₀ i₀ flags start last i =
-    Judging set dict list n (λ q. HoldsQuery q kind m plo phi pturn k lo hi turn qx qy variance) flags₀ flags start last i
+Inv-loop set dict lines words flags₀ start₀ passed₀ flags start passed = Walking set dict lines words flags₀ flags start passed
 
 abbrev μ-loop : tie.MeasureT-loop
-μ-loop set dict list n kind m plo phi pturn k lo hi turn qx qy variance flags₀ start₀ last₀ i₀ flags start last i = n - i
+μ-loop set dict lines words flags₀ start₀ passed₀ flags start passed = lines - passed
 
 loop-holds : tie.Need-loop-holds Inv-loop μ-loop
-loop-holds c = judging-start _ _ _ _ _ _ (c .before .before .before .pre .0 .0) (c .before .before .before .pre .0 .1)
-
-mul-e : tie.Need-mul-e Inv-loop μ-loop
-mul-e c = omega arith
-
-shared-slice-read-e : tie.Need-shared-slice-read-e Inv-loop μ-loop
-shared-slice-read-e c = omega (arith, c .before .before .loop .inv .room)
-
-cast-e : tie.Need-cast-e Inv-loop μ-loop
-cast-e c = omega (arith, c .shared-slice-known3 .given (c .before .before .loop .i))
-
-add-start-from : tie.Need-add-start-from Inv-loop μ-loop
-add-start-from c = omega (arith, judging-entry (c .before .before .loop .inv) (c .before .loop-test .taken) .0, c .shared-slice-known3 .given (c .before .before .loop .i))
-
-start-from-requires : tie.Need-start-from-requires Inv-loop μ-loop
-start-from-requires c κs = (omega arith, omega (arith, (judging-entry (c .before .before .loop .inv) (c .before .loop-test .taken)) .0), (judging-entry (c .before .before .loop .inv) (c .before .loop-test .taken)) .1, c .before .before .loop .inv .here)
+loop-holds c = walking-start _ _ _ _ _ (c .before .before .pre .0)
 
 line-end-requires : tie.Need-line-end-requires Inv-loop μ-loop
-line-end-requires c κs = omega (arith, start-within _ _ _ (omega (arith, (judging-entry (c .before .before .before .loop .inv) (c .before .before .loop-test .taken)) .0)) ((judging-entry (c .before .before .before .loop .inv) (c .before .before .loop-test .taken)) .1) (c .start-from .ensures))
+line-end-requires c κs = omega (arith, walking-within (c .before .loop .inv) (c .loop-test .taken))
 
-sub-line : tie.Need-sub-line Inv-loop μ-loop
-sub-line c = omega (arith, (judging-line (c .before .before .before .before .loop .inv) (c .before .before .before .loop-test .taken) _ _ (c .before .start-from .ensures) (c .line-end .ensures)) .low)
+add-passed : tie.Need-add-passed Inv-loop μ-loop
+add-passed c = omega arith
 
-part-line-start : tie.Need-part-line-start Inv-loop μ-loop
-part-line-start c = omega (arith, (judging-line (c .before .before .before .before .loop .inv) (c .before .before .before .loop-test .taken) _ _ (c .before .start-from .ensures) (c .line-end .ensures)) .low)
+sub-judge-line : tie.Need-sub-judge-line Inv-loop μ-loop
+sub-judge-line c = omega (arith, walking-line (c .before .before .loop .inv) (c .before .loop-test .taken) _ (c .line-end .ensures) .low)
 
-part-line-end : tie.Need-part-line-end Inv-loop μ-loop
-part-line-end c = omega (arith, (judging-line (c .before .before .before .before .loop .inv) (c .before .before .before .loop-test .taken) _ _ (c .before .start-from .ensures) (c .line-end .ensures)) .high)
+part-judge-line-start : tie.Need-part-judge-line-start Inv-loop μ-loop
+part-judge-line-start c = omega (arith, walking-line (c .before .before .loop .inv) (c .before .loop-test .taken) _ (c .line-end .ensures) .low)
 
-judge-text-requires : tie.Need-judge-text-requires Inv-loop μ-loop
-judge-text-requires c κs = c .before .before .before .before .before .before .before .before .before .pre .1
+part-judge-line-end : tie.Need-part-judge-line-end Inv-loop μ-loop
+part-judge-line-end c = omega (arith, walking-line (c .before .before .loop .inv) (c .before .loop-test .taken) _ (c .line-end .ensures) .high)
 
-same-length : tie.Need-same-length Inv-loop μ-loop
-same-length c = c .before .before .before .before .before .before .before .loop .inv .long
-
-returns : tie.Need-returns Inv-loop μ-loop
-returns c = judging-wrong (c .before .before .before .before .before .before .before .loop .inv) (c .before .before .before .before .before .before .loop-test .taken) (judging-line (c .before .before .before .before .before .before .before .loop .inv) (c .before .before .before .before .before .before .loop-test .taken) _ _ (c .before .before .before .before .start-from .ensures) (c .before .before .before .line-end .ensures)) (c .before .before .before .before .before .before .before .before .before .before .before .pre .1 .holds) _ (c .before .judge-text .ensures .is) (c .if1 .taken)
-
-cast-flags : tie.Need-cast-flags Inv-loop μ-loop
-cast-flags c = tt
-
-slice-write-flags : tie.Need-slice-write-flags Inv-loop μ-loop
-slice-write-flags c = omega (arith, c .before .before .before .before .before .before .before .loop .inv .spare, c .before .before .before .before .before .before .before .loop .inv .long)
+judge-line-requires : tie.Need-judge-line-requires Inv-loop μ-loop
+judge-line-requires c κs = (omega (arith, walking-long (c .before .before .before .before .loop .inv), c .before .before .before .before .before .before .before .pre .1), c .before .before .before .before .before .before .before .pre .2)
 
 add-start : tie.Need-add-start Inv-loop μ-loop
-add-start c = omega (arith, (judging-line (c .before .before .before .before .before .before .before .loop .inv) (c .before .before .before .before .before .before .loop-test .taken) _ _ (c .before .before .before .before .start-from .ensures) (c .before .before .before .line-end .ensures)) .high)
-
-add-i : tie.Need-add-i Inv-loop μ-loop
-add-i c = omega arith
+add-start c = omega (arith, walking-line (c .before .before .before .before .before .before .before .loop .inv) (c .before .before .before .before .before .before .loop-test .taken) _ (c .before .before .before .before .before .line-end .ensures) .high)
 
 loop-less : tie.Need-loop-less Inv-loop μ-loop
 loop-less c = omega arith
 
 loop-again : tie.Need-loop-again Inv-loop μ-loop
-loop-again c = judging-more (c .before .before .before .before .before .before .before .loop .inv) (c .before .before .before .before .before .before .loop-test .taken) (judging-line (c .before .before .before .before .before .before .before .loop .inv) (c .before .before .before .before .before .before .loop-test .taken) _ _ (c .before .before .before .before .start-from .ensures) (c .before .before .before .line-end .ensures)) (c .before .before .before .before .before .before .before .before .before .before .before .pre .1 .holds) _ (c .before .judge-text .ensures .is) (c .if1 .left) _ (byte-flag (c .before .judge-text .result .met))
+loop-again c = walking-on (c .before .before .before .before .before .before .before .loop .inv) (c .before .before .before .before .before .before .loop-test .taken) _ (walking-line (c .before .before .before .before .before .before .before .loop .inv) (c .before .before .before .before .before .before .loop-test .taken) _ (c .before .before .before .before .before .line-end .ensures)) _ (c .before .before .judge-line .ensures)
 
-same-length-2 : tie.Need-same-length-2 Inv-loop μ-loop
-same-length-2 c = c .before .loop .inv .long
+same-length : tie.Need-same-length Inv-loop μ-loop
+same-length c = walking-long (c .before .loop .inv)
 
-returns-2 : tie.Need-returns-2 Inv-loop μ-loop
-returns-2 c = judging-end (c .before .loop .inv) (c .loop-test .left)
+returns : tie.Need-returns Inv-loop μ-loop
+returns c = walking-end (c .before .loop .inv) (c .loop-test .left)
 
 pub judge-listed-spec : {M : Type 1} → statement M
 judge-listed-spec =
@@ -83,23 +53,14 @@ judge-listed-spec =
     Inv-loop
     μ-loop
     loop-holds
-    mul-e
-    shared-slice-read-e
-    cast-e
-    add-start-from
-    start-from-requires
     line-end-requires
-    sub-line
-    part-line-start
-    part-line-end
-    judge-text-requires
-    same-length
-    returns
-    cast-flags
-    slice-write-flags
+    add-passed
+    sub-judge-line
+    part-judge-line-start
+    part-judge-line-end
+    judge-line-requires
     add-start
-    add-i
     loop-less
     loop-again
-    same-length-2
-    returns-2)
+    same-length
+    returns)

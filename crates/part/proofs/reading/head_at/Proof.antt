@@ -12,6 +12,9 @@ quick-head-requires c κs = search needs
 enum-known-quick : tie.Need-enum-known-quick
 enum-known-quick c = search needs
 
+enum-told : tie.Need-enum-told
+enum-told c = search needs
+
 head-careful-requires : tie.Need-head-careful-requires
 head-careful-requires c κs = search needs
 
@@ -23,4 +26,4 @@ returns-2 c = sure-placed _ _ _ (head-fixed (tokens (c .before .before .before .
 
 pub head-at-spec : {M : Type 1} → statement M
 head-at-spec =
-    tie.close (tie.spec quick-head-requires enum-known-quick head-careful-requires returns returns-2)
+    tie.close (tie.spec quick-head-requires enum-known-quick enum-told head-careful-requires returns returns-2)

@@ -1,5 +1,5 @@
 use borrow.Author.Needs.{needs}
-use Rattle.part.specs.Placed.{pointThen}
+use Rattle.part.specs.Inner.{pointThen}
 use Rattle.part.proofs.reading.point_then.Statement.{statement}
 use Rattle.part.proofs.reading.point_then.Tie as tie
 

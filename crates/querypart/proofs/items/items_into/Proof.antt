@@ -1,26 +1,19 @@
-use Rattle.querypart.proofs.Walks.{ItemsInv, items-start, sighted, lows-length, highs-length, turns-length, xs-length, ys-length, items-grow, items-on, items-stop, items-end, items-bad, items-cut}
+use Rattle.querypart.proofs.Walks.{ItemsInv, items-start, sighted, items-grow, items-on, items-stop, items-end, items-bad, items-cut}
 use borrow.Author.Needs.{needs}
 use native.Mathlib.Omega.{arith}
 use lib.ListN.{length}
 use Prim.Native.Nat.{_-_}
 use Rattle.querypart.proofs.items.items_into.Statement.{statement}
 use Rattle.querypart.proofs.items.items_into.Tie as tie
-use Rattle.querypart.proofs.items.items_into.Reads as reads
-use Rattle.querypart.proofs.items.items_into.Lts as lts
-use Rattle.querypart.proofs.items.counted.Reads as counted-reads
-use Rattle.querypart.proofs.items.no_count.Reads as no-count-reads
-use Rattle.querypart.proofs.items.note.Reads as note-reads
-use Rattle.querypart.proofs.items.put_item.Reads as put-item-reads
-use Rattle.queryitem.proofs.reading.sought_at.Reads as sought-at-reads
 
 abbrev Inv-loop : tie.InvT-loop
-Inv-loop s at boxed lo₀ hi₀ turn₀ xs₀ ys₀ n₀ i₀ reversed₀ lo hi turn xs ys n i reversed = ItemsInv boxed s at n i reversed lo hi turn xs ys
+Inv-loop s at boxed words₀ from n₀ i₀ reversed₀ words n i reversed = ItemsInv boxed s at from n i reversed words₀ words
 
 abbrev μ-loop : tie.MeasureT-loop
-μ-loop s at boxed lo₀ hi₀ turn₀ xs₀ ys₀ n₀ i₀ reversed₀ lo hi turn xs ys n i reversed = length s - i
+μ-loop s at boxed words₀ from n₀ i₀ reversed₀ words n i reversed = length s - i
 
 loop-holds : tie.Need-loop-holds Inv-loop μ-loop
-loop-holds c = items-start _ _ _ _ _ _ _ _ (c .before .pre .0) (c .before .pre .1) (c .before .pre .2) (c .before .pre .3) (c .before .pre .4) (c .before .pre .5) (c .before .pre .6)
+loop-holds c = items-start _ _ _ _ _ (c .before .pre .0) (c .before .pre .1) (c .before .pre .2)
 
 sought-at-requires : tie.Need-sought-at-requires Inv-loop μ-loop
 sought-at-requires c κs = omega arith
@@ -28,20 +21,20 @@ sought-at-requires c κs = omega arith
 enum-known-item : tie.Need-enum-known-item Inv-loop μ-loop
 enum-known-item c = search needs
 
-put-item-requires : tie.Need-put-item-requires Inv-loop μ-loop
-put-item-requires c κs = (lows-length _ _ _ _ _ _ _ _ _ _ _ (c .before .before .before .before .before .before .before .before .before .before .loop .inv), highs-length _ _ _ _ _ _ _ _ _ _ _ (c .before .before .before .before .before .before .before .before .before .before .loop .inv), turns-length _ _ _ _ _ _ _ _ _ _ _ (c .before .before .before .before .before .before .before .before .before .before .loop .inv), xs-length _ _ _ _ _ _ _ _ _ _ _ (c .before .before .before .before .before .before .before .before .before .before .loop .inv), ys-length _ _ _ _ _ _ _ _ _ _ _ (c .before .before .before .before .before .before .before .before .before .before .loop .inv))
+keep-row-requires : tie.Need-keep-row-requires Inv-loop μ-loop
+keep-row-requires c κs = (c .before .before .before .before .before .before .loop .inv .size, c .before .before .before .before .before .before .before .before .pre .3)
 
 note-requires : tie.Need-note-requires Inv-loop μ-loop
 note-requires c κs = search needs
 
 add-n : tie.Need-add-n Inv-loop μ-loop
-add-n c = omega (arith, c .before .before .before .before .before .before .before .before .before .before .before .before .loop .inv .few, c .before .before .before .before .before .before .before .before .before .before .before .loop-test .taken)
+add-n c = omega (arith, c .before .before .before .before .before .before .before .before .loop .inv .few, c .before .before .before .before .before .before .before .loop-test .taken)
 
 loop-less : tie.Need-loop-less Inv-loop μ-loop
-loop-less c = omega (arith, items-grow _ _ _ _ _ _ _ _ _ _ _ (c .before .before .before .before .before .before .before .before .before .before .before .before .loop .inv) _ _ (sighted _ _ _ _ _ _ (c .before .before .before .before .before .before .before .before .before .before .sought-at .ensures) (c .before .before .before .before .before .before .before .before .item .given .1)) .0, items-grow _ _ _ _ _ _ _ _ _ _ _ (c .before .before .before .before .before .before .before .before .before .before .before .before .loop .inv) _ _ (sighted _ _ _ _ _ _ (c .before .before .before .before .before .before .before .before .before .before .sought-at .ensures) (c .before .before .before .before .before .before .before .before .item .given .1)) .1)
+loop-less c = omega (arith, items-grow _ _ _ _ _ _ _ _ _ (c .before .before .before .before .before .before .before .before .loop .inv) _ _ (sighted _ _ _ _ _ _ (c .before .before .before .before .before .before .sought-at .ensures) (c .before .before .before .before .item .given .1)) .0, items-grow _ _ _ _ _ _ _ _ _ (c .before .before .before .before .before .before .before .before .loop .inv) _ _ (sighted _ _ _ _ _ _ (c .before .before .before .before .before .before .sought-at .ensures) (c .before .before .before .before .item .given .1)) .1)
 
 loop-again : tie.Need-loop-again Inv-loop μ-loop
-loop-again c = items-on _ _ _ _ _ _ _ _ _ _ _ (c .before .before .before .before .before .before .before .before .before .before .before .before .loop .inv) _ _ (sighted _ _ _ _ _ _ (c .before .before .before .before .before .before .before .before .before .before .sought-at .ensures) (c .before .before .before .before .before .before .before .before .item .given .1)) _ _ _ _ _ _ (c .before .put-item .ensures .0) (c .before .put-item .ensures .1 .0) (c .before .put-item .ensures .1 .1 .0) (c .before .put-item .ensures .1 .1 .1 .0) (c .before .put-item .ensures .1 .1 .1 .1) (c .note .ensures)
+loop-again c = items-on _ _ _ _ _ _ _ _ _ (c .before .before .before .before .before .before .before .before .loop .inv) _ _ (sighted _ _ _ _ _ _ (c .before .before .before .before .before .before .sought-at .ensures) (c .before .before .before .before .item .given .1)) _ _ (c .before .keep-row .ensures) (c .note .ensures)
 
 enum-known-p : tie.Need-enum-known-p Inv-loop μ-loop
 enum-known-p c = search needs
@@ -50,13 +43,13 @@ counted-requires : tie.Need-counted-requires Inv-loop μ-loop
 counted-requires c κs = search needs
 
 returns : tie.Need-returns Inv-loop μ-loop
-returns c = items-stop _ _ _ _ _ _ _ _ _ _ _ (c .before .before .before .before .before .before .before .loop .inv) _ _ _ (c .before .before .before .before .before .sought-at .ensures) (c .before .before .before .p .given .1) (c .before .if1 .taken) (c .counted .ensures)
+returns c = items-stop _ _ _ _ _ _ _ _ _ (c .before .before .before .before .before .before .before .loop .inv) _ _ _ (c .before .before .before .before .before .sought-at .ensures) (c .before .before .before .p .given .1) (c .before .if1 .taken) (c .counted .ensures)
 
 no-count-requires : tie.Need-no-count-requires Inv-loop μ-loop
 no-count-requires c κs = search needs
 
 returns-2 : tie.Need-returns-2 Inv-loop μ-loop
-returns-2 c = items-bad _ _ _ _ _ _ _ _ _ _ _ (c .before .before .before .before .before .before .before .loop .inv) _ _ _ (c .before .before .before .before .before .sought-at .ensures) (c .before .before .before .p .given .1) (c .before .if1 .left) (c .no-count .ensures)
+returns-2 c = items-bad _ _ _ _ _ _ _ _ _ (c .before .before .before .before .before .before .before .loop .inv) _ _ _ (c .before .before .before .before .before .sought-at .ensures) (c .before .before .before .p .given .1) (c .before .if1 .left) (c .no-count .ensures)
 
 enum-told : tie.Need-enum-told Inv-loop μ-loop
 enum-told c = search needs
@@ -65,13 +58,13 @@ no-count-requires-2 : tie.Need-no-count-requires-2 Inv-loop μ-loop
 no-count-requires-2 c κs = search needs
 
 returns-3 : tie.Need-returns-3 Inv-loop μ-loop
-returns-3 c = items-cut _ _ _ _ _ _ _ _ _ _ _ (c .before .before .before .before .before .loop .inv) (c .before .before .before .before .loop-test .taken) _ _ (c .before .before .before .sought-at .ensures) (c .before .enum-told .given .1) (c .no-count2 .ensures)
+returns-3 c = items-cut _ _ _ _ _ _ _ _ _ (c .before .before .before .before .before .loop .inv) (c .before .before .before .before .loop-test .taken) _ _ (c .before .before .before .sought-at .ensures) (c .before .enum-told .given .1) (c .no-count2 .ensures)
 
 counted-requires-2 : tie.Need-counted-requires-2 Inv-loop μ-loop
 counted-requires-2 c κs = search needs
 
 returns-4 : tie.Need-returns-4 Inv-loop μ-loop
-returns-4 c = items-end _ _ _ _ _ _ _ _ _ _ _ (c .before .before .loop .inv) (c .before .loop-test .left) _ (c .counted2 .ensures)
+returns-4 c = items-end _ _ _ _ _ _ _ _ _ (c .before .before .loop .inv) (c .before .loop-test .left) _ (c .counted2 .ensures)
 
 pub items-into-spec : {M : Type 1} → statement M
 items-into-spec =
@@ -82,7 +75,7 @@ items-into-spec =
     loop-holds
     sought-at-requires
     enum-known-item
-    put-item-requires
+    keep-row-requires
     note-requires
     add-n
     loop-less

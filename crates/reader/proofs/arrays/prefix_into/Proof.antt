@@ -1,9 +1,10 @@
 use Prim.Native.Nat.{_-_}
-use mathlib.Core.Path.{sym, _∙_}
+use mathlib.Core.Path.{sym, ap, _∙_}
 use lib.ListN.{length}
 use native.Mathlib.Omega.{arith}
 use borrow.Author.Needs.{needs}
-use Rattle.reader.proofs.Loops.{PrefixInv, prefix-start, prefix-length, prefix-grows, prefix-on, prefix-stop, prefix-end, prefix-bad, prefix-cut}
+use Rattle.token.specs.Token.{tokenResult}
+use Rattle.reader.proofs.Loops.{PrefixInv, prefix-start, prefix-length, prefix-grows, prefix-on, prefix-stop, prefix-end, prefix-refused}
 use Rattle.reader.proofs.arrays.prefix_into.Statement.{statement}
 use Rattle.reader.proofs.arrays.prefix_into.Tie as tie
 
@@ -53,7 +54,7 @@ counted-requires-2 : tie.Need-counted-requires-2 Inv-loop μ-loop
 counted-requires-2 c κs = search needs
 
 returns-2 : tie.Need-returns-2 Inv-loop μ-loop
-returns-2 c = rw (c .counted2 .ensures) (prefix-bad _ _ _ _ _ _ (c .before .before .before .before .before .before .before .loop .inv) _ (sym (c .before .before .before .before .before .prefix-symbol-at .ensures) ∙ c .before .before .before .p .given .1) (c .before .if1 .left))
+returns-2 c = rw (c .counted2 .ensures) (prefix-refused _ _ _ _ _ _ (c .before .before .before .before .before .before .before .loop .inv) _ _ (ap (tokenResult _) (sym (c .before .before .before .before .before .prefix-symbol-at .ensures) ∙ c .before .before .before .p .given .1)) (c .before .if1 .left) (c .before .before .before .before .before .before .loop-test .taken))
 
 enum-told : tie.Need-enum-told Inv-loop μ-loop
 enum-told c = search needs
@@ -62,7 +63,7 @@ counted-requires-3 : tie.Need-counted-requires-3 Inv-loop μ-loop
 counted-requires-3 c κs = search needs
 
 returns-3 : tie.Need-returns-3 Inv-loop μ-loop
-returns-3 c = rw (c .counted3 .ensures) (prefix-cut _ _ _ _ _ _ (c .before .before .before .before .before .loop .inv) (c .before .before .before .before .loop-test .taken) (sym (c .before .before .before .prefix-symbol-at .ensures) ∙ c .before .enum-told .given .1))
+returns-3 c = rw (c .counted3 .ensures) (prefix-refused _ _ _ _ _ _ (c .before .before .before .before .before .loop .inv) _ _ (ap (tokenResult _) (sym (c .before .before .before .prefix-symbol-at .ensures) ∙ c .before .enum-told .given .1)) (λ q. omega (arith, q, c .before .before .before .before .loop-test .taken)) (c .before .before .before .before .loop-test .taken))
 
 counted-requires-4 : tie.Need-counted-requires-4 Inv-loop μ-loop
 counted-requires-4 c κs = search needs

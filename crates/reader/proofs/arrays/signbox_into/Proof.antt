@@ -1,7 +1,8 @@
-use mathlib.Core.Path.{sym, _∙_}
+use mathlib.Core.Path.{sym, ap, _∙_}
+use Rattle.part.specs.Placed.{placedResult}
 use denote.Ref.{now}
 use native.Mathlib.Omega.{arith}
-use Rattle.reader.proofs.Texts.{head-room, place-inside, box-wrong, box-short, box-refused, box-over, box-cut, box-fine}
+use Rattle.reader.proofs.Signboxes.{head-room, box-headless, box-refused, box-read}
 use borrow.Author.Needs.{needs}
 use Rattle.reader.proofs.arrays.signbox_into.Statement.{statement}
 use Rattle.reader.proofs.arrays.signbox_into.Tie as tie
@@ -27,41 +28,26 @@ no-head-requires c κs = search needs
 returns : tie.Need-returns
 returns c = box-refused _ _ _ _ _ _ _ _ (sym (c .before .before .before .before .before .before .before .before .before .before .head-at .ensures) ∙ c .before .before .before .before .before .before .before .before .m .given .1) (c .before .before .before .before .before .before .head-size .ensures) _ _ _ _ (c .before .before .symbols-into .ensures) _ (c .before .if1 .taken) (c .no-head .ensures)
 
-left-over-requires : tie.Need-left-over-requires
-left-over-requires c κs = place-inside (c .before .before .before .before .before .before .before .before .before .before .before .args .set) (now (c .before .before .before .before .before .before .before .before .before .before .before .args .s)) (c .before .before .before .before .before .before .before .before .before .before .before .args .at) (c .before .before .before .before .before .before .before .before .before .before .before .args .before) _ _ _ _ (sym (c .before .before .before .before .before .before .before .before .before .head-at .ensures) ∙ c .before .before .before .before .before .before .before .m .given .1) (c .before .before .before .before .before .head-size .ensures) _ _ _ _ (c .before .symbols-into .ensures) (c .if1 .left)
+enum-known-p : tie.Need-enum-known-p
+enum-known-p c = search needs
 
 no-head-requires-2 : tie.Need-no-head-requires-2
 no-head-requires-2 c κs = search needs
 
-returns-2 : tie.Need-returns-2
-returns-2 c = box-over _ _ _ _ _ _ _ _ (sym (c .before .before .before .before .before .before .before .before .before .before .before .before .head-at .ensures) ∙ c .before .before .before .before .before .before .before .before .before .before .m .given .1) (c .before .before .before .before .before .before .before .before .head-size .ensures) _ _ _ _ (c .before .before .before .before .symbols-into .ensures) _ (c .before .before .before .if1 .left) (c .before .before .left-over .ensures) _ (c .before .if2 .taken) (c .no-head2 .ensures)
+enum-told : tie.Need-enum-told
+enum-told c = search needs
 
 no-head-requires-3 : tie.Need-no-head-requires-3
 no-head-requires-3 c κs = search needs
 
+returns-2 : tie.Need-returns-2
+returns-2 c = box-read _ _ _ _ _ _ _ _ (sym (c .before .before .before .before .before .before .before .before .before .head-at .ensures) ∙ c .before .before .before .before .before .before .before .m .given .1) (c .before .before .before .before .before .head-size .ensures) _ _ _ _ (c .before .symbols-into .ensures) (c .if1 .left)
+
 returns-3 : tie.Need-returns-3
-returns-3 c = box-cut _ _ _ _ _ _ _ _ (sym (c .before .before .before .before .before .before .before .before .before .before .before .before .before .head-at .ensures) ∙ c .before .before .before .before .before .before .before .before .before .before .before .m .given .1) (c .before .before .before .before .before .before .before .before .before .head-size .ensures) _ _ _ _ (c .before .before .before .before .before .symbols-into .ensures) _ (c .before .before .before .before .if1 .left) (c .before .before .before .left-over .ensures) _ (c .before .if3 .taken) (c .no-head3 .ensures)
-
-enum-known-p : tie.Need-enum-known-p
-enum-known-p c = search needs
-
-no-head-requires-4 : tie.Need-no-head-requires-4
-no-head-requires-4 c κs = search needs
-
-enum-told : tie.Need-enum-told
-enum-told c = search needs
-
-no-head-requires-5 : tie.Need-no-head-requires-5
-no-head-requires-5 c κs = search needs
+returns-3 c = box-headless _ _ _ _ _ _ _ _ _ _ (ap (placedResult _) (sym (c .before .before .before .before .head-at .ensures) ∙ c .before .before .p .given .1)) (c .no-head2 .ensures)
 
 returns-4 : tie.Need-returns-4
-returns-4 c = box-fine _ _ _ _ _ _ _ _ (sym (c .before .before .before .before .before .before .before .before .before .before .before .before .head-at .ensures) ∙ c .before .before .before .before .before .before .before .before .before .before .m .given .1) (c .before .before .before .before .before .before .before .before .head-size .ensures) _ _ _ _ (c .before .before .before .before .symbols-into .ensures) _ (c .before .before .before .if1 .left) (c .before .before .left-over .ensures) (c .before .if2 .left) (c .if3 .left)
-
-returns-5 : tie.Need-returns-5
-returns-5 c = box-wrong _ _ _ _ _ _ _ _ _ (sym (c .before .before .before .before .head-at .ensures) ∙ c .before .before .p .given .1) (c .no-head4 .ensures)
-
-returns-6 : tie.Need-returns-6
-returns-6 c = box-short _ _ _ _ _ _ _ _ (sym (c .before .before .before .head-at .ensures) ∙ c .before .enum-told .given .1) (c .no-head5 .ensures)
+returns-4 c = box-headless _ _ _ _ _ _ _ _ _ _ (ap (placedResult _) (sym (c .before .before .before .head-at .ensures) ∙ c .before .enum-told .given .1)) (c .no-head3 .ensures)
 
 pub signbox-into-spec : {M : Type 1} → statement M
 signbox-into-spec =
@@ -74,15 +60,10 @@ signbox-into-spec =
     symbols-into-requires
     no-head-requires
     returns
-    left-over-requires
-    no-head-requires-2
-    returns-2
-    no-head-requires-3
-    returns-3
     enum-known-p
-    no-head-requires-4
+    no-head-requires-2
     enum-told
-    no-head-requires-5
-    returns-4
-    returns-5
-    returns-6)
+    no-head-requires-3
+    returns-2
+    returns-3
+    returns-4)

@@ -1,9 +1,10 @@
 use Prim.Native.Nat.{_-_}
-use mathlib.Core.Path.{sym, _∙_}
+use mathlib.Core.Path.{sym, ap, _∙_}
 use lib.ListN.{length}
 use native.Mathlib.Omega.{arith}
 use borrow.Author.Needs.{needs}
-use Rattle.reader.proofs.Loops.{SymbolsInv, symbols-start, codes-length, xs-length, ys-length, symbols-grows, symbols-on, symbols-stop, symbols-end, symbols-bad, symbols-cut}
+use Rattle.part.specs.Placed.{placedResult}
+use Rattle.reader.proofs.Loops.{SymbolsInv, symbols-start, codes-length, xs-length, ys-length, symbols-grows, symbols-on, symbols-stop, symbols-end, symbols-refused}
 use Rattle.reader.proofs.arrays.symbols_into.Statement.{statement}
 use Rattle.reader.proofs.arrays.symbols_into.Tie as tie
 
@@ -59,7 +60,7 @@ counted-requires-2 : tie.Need-counted-requires-2 Inv-loop μ-loop
 counted-requires-2 c κs = search needs
 
 returns-2 : tie.Need-returns-2 Inv-loop μ-loop
-returns-2 c = rw (c .counted2 .ensures) (symbols-bad _ _ _ _ _ _ _ _ (c .before .before .before .before .before .before .before .loop .inv) _ (sym (c .before .before .before .before .before .spatial-at .ensures) ∙ c .before .before .before .p .given .1) (c .before .if1 .left))
+returns-2 c = rw (c .counted2 .ensures) (symbols-refused _ _ _ _ _ _ _ _ (c .before .before .before .before .before .before .before .loop .inv) _ _ (ap (placedResult _) (sym (c .before .before .before .before .before .spatial-at .ensures) ∙ c .before .before .before .p .given .1)) (c .before .if1 .left) (c .before .before .before .before .before .before .loop-test .taken))
 
 enum-told : tie.Need-enum-told Inv-loop μ-loop
 enum-told c = search needs
@@ -68,7 +69,7 @@ counted-requires-3 : tie.Need-counted-requires-3 Inv-loop μ-loop
 counted-requires-3 c κs = search needs
 
 returns-3 : tie.Need-returns-3 Inv-loop μ-loop
-returns-3 c = rw (c .counted3 .ensures) (symbols-cut _ _ _ _ _ _ _ _ (c .before .before .before .before .before .loop .inv) (c .before .before .before .before .loop-test .taken) (sym (c .before .before .before .spatial-at .ensures) ∙ c .before .enum-told .given .1))
+returns-3 c = rw (c .counted3 .ensures) (symbols-refused _ _ _ _ _ _ _ _ (c .before .before .before .before .before .loop .inv) _ _ (ap (placedResult _) (sym (c .before .before .before .spatial-at .ensures) ∙ c .before .enum-told .given .1)) (λ q. omega (arith, q, c .before .before .before .before .loop-test .taken)) (c .before .before .before .before .loop-test .taken))
 
 counted-requires-4 : tie.Need-counted-requires-4 Inv-loop μ-loop
 counted-requires-4 c κs = search needs

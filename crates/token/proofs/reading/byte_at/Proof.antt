@@ -1,8 +1,7 @@
 use mathlib.Core.List.{[], _∷_}
-use mathlib.Core.Path.{refl}
 use native.Mathlib.Omega.{arith}
 use borrow.Author.Needs.{needs}
-use Rattle.token.proofs.Units.{byte-cut, byte-below, byte-above, byte-within}
+use Rattle.token.proofs.Units.{byte-cut, byte-other, byte-within}
 use Rattle.token.proofs.reading.byte_at.Statement.{statement}
 use Rattle.token.proofs.reading.byte_at.Tie as tie
 
@@ -13,18 +12,10 @@ shared-slice-read-if2 : tie.Need-shared-slice-read-if2
 shared-slice-read-if2 c = search needs
 
 returns-2 : tie.Need-returns-2
-returns-2 c = byte-below (λ a. a) (λ a. a ∷ []) _ _ _ _ _ (c .before .before .if1 .left) refl (c .if2 .taken)
-
-shared-slice-read-if3 : tie.Need-shared-slice-read-if3
-shared-slice-read-if3 c = search needs
+returns-2 c = byte-other _ _ _ (c .before .before .if1 .left) (c .if2 .taken)
 
 returns-3 : tie.Need-returns-3
-returns-3 c = byte-above (λ a. a) (λ a. a ∷ []) _ _ _ _ _ (c .before .before .before .before .if1 .left) refl (c .before .before .if2 .left) (c .if3 .taken)
-
-returns-4 : tie.Need-returns-4
-returns-4 c = byte-within (λ a. a) (λ a. a ∷ []) _ _ _ _ _ (c .before .before .before .before .if1 .left) (omega arith) (omega arith) (omega arith)
+returns-3 c = byte-within (λ a. a) (λ a. a ∷ []) _ _ _ _ _ (c .before .before .if1 .left) (omega arith) (omega arith) (omega arith)
 
 pub byte-at-spec : {M : Type 1} → statement M
-byte-at-spec =
-    tie.close
-    (tie.spec returns shared-slice-read-if2 returns-2 shared-slice-read-if3 returns-3 returns-4)
+byte-at-spec = tie.close (tie.spec returns shared-slice-read-if2 returns-2 returns-3)

@@ -50,8 +50,8 @@ returns-3 c =
 sub-t19 : tie.Need-sub-t19
 sub-t19 c = search needs
 
-cast-t20 : tie.Need-cast-t20
-cast-t20 c = search needs
+cast-t21 : tie.Need-cast-t21
+cast-t21 c = search needs
 
 returns-4 : tie.Need-returns-4
 returns-4 c =
@@ -77,5 +77,5 @@ character-at-spec =
     add-if3
     returns-3
     sub-t19
-    cast-t20
+    cast-t21
     returns-4)

@@ -25,9 +25,6 @@ returns c =
     head-fails _ (_ ∷ []) _ _ (c .before .before .before .pre .1) (c .before .before .before .pre .2) _ _ _ (c .before .digit-at .ensures)
     (c .match .keys2)
 
-add-two-at : tie.Need-add-two-at
-add-two-at c = search needs
-
 first : (c : tie.After-known-told)
     → let a = c .before .before .before .before .before .args in
     First (a .p) (a .lo) (a .hi) (now (a .s)) (a .at) (c .before .first .given .0 .0)
@@ -35,17 +32,17 @@ first c =
     head-told _ (_ ∷ []) _ _ (c .before .before .before .before .before .pre .1) (c .before .before .before .before .before .pre .2) _ _ _ _
     (c .before .before .before .digit-at .ensures) (c .before .first .given .1)
 
-mul-less : tie.Need-mul-less
-mul-less c = omega (arith, first c .under)
+mul-from : tie.Need-mul-from
+mul-from c = omega (arith, first c .under)
+
+add-two-at : tie.Need-add-two-at
+add-two-at c = search needs
 
 less-requires : tie.Need-less-requires
 less-requires c κs = search needs
 
 sub-least : tie.Need-sub-least
 sub-least c = search needs
-
-mul-less-2 : tie.Need-mul-less-2
-mul-less-2 c = omega (arith, first (c .before) .under)
 
 less-requires-2 : tie.Need-less-requires-2
 less-requires-2 c κs = search needs
@@ -74,11 +71,8 @@ rest c =
 returns-2 : tie.Need-returns-2
 returns-2 c = rest (c .before) .fails (c .match2 .keys2)
 
-mul-t11 : tie.Need-mul-t11
-mul-t11 c = omega (arith, first (c .before .before .before .before .before .before .before) .under)
-
-add-t17 : tie.Need-add-t17
-add-t17 c = omega (arith, rest (c .before .before .before) .fits _ (c .before .next .given .1))
+add-t12 : tie.Need-add-t12
+add-t12 c = omega (arith, rest (c .before .before .before) .fits _ (c .before .next .given .1))
 
 returns-3 : tie.Need-returns-3
 returns-3 c = rest (c .before .before .before) .value _ (c .before .next .given .1)
@@ -92,16 +86,14 @@ three-at-spec =
     digit-at-requires
     enum-known-first
     returns
+    mul-from
     add-two-at
-    mul-less
     less-requires
     sub-least
-    mul-less-2
     less-requires-2
     least-requires
     two-at-requires
     enum-known-next
     returns-2
-    mul-t11
-    add-t17
+    add-t12
     returns-3)

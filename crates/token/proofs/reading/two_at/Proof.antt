@@ -23,9 +23,6 @@ enum-known-first c = search needs
 returns : tie.Need-returns
 returns c = head-fails _ [] _ _ (c .before .before .before .pre .1) (c .before .before .before .pre .2) _ _ _ (c .before .digit-at .ensures) (c .match .keys2)
 
-add-digit-at : tie.Need-add-digit-at
-add-digit-at c = search needs
-
 first : (c : tie.After-known-told)
     → let a = c .before .before .before .before .before .args in
     First (a .p) (a .lo) (a .hi) (now (a .s)) (a .at) (c .before .first .given .0 .0)
@@ -33,17 +30,17 @@ first c =
     head-told _ [] _ _ (c .before .before .before .before .before .pre .1) (c .before .before .before .before .before .pre .2) _ _ _ _
     (c .before .before .before .digit-at .ensures) (c .before .first .given .1)
 
-mul-less : tie.Need-mul-less
-mul-less c = omega (arith, first c .under)
+mul-from : tie.Need-mul-from
+mul-from c = omega (arith, first c .under)
+
+add-digit-at : tie.Need-add-digit-at
+add-digit-at c = search needs
 
 less-requires : tie.Need-less-requires
 less-requires c κs = search needs
 
 sub-least : tie.Need-sub-least
 sub-least c = search needs
-
-mul-less-2 : tie.Need-mul-less-2
-mul-less-2 c = omega (arith, first (c .before) .under)
 
 less-requires-2 : tie.Need-less-requires-2
 less-requires-2 c κs = search needs
@@ -69,11 +66,8 @@ rest c =
 returns-2 : tie.Need-returns-2
 returns-2 c = rest (c .before) .fails (c .match2 .keys2)
 
-mul-t10 : tie.Need-mul-t10
-mul-t10 c = omega (arith, first (c .before .before .before .before .before .before .before) .under)
-
-add-t16 : tie.Need-add-t16
-add-t16 c = omega (arith, rest (c .before .before .before) .fits _ (c .before .next .given .1))
+add-t11 : tie.Need-add-t11
+add-t11 c = omega (arith, rest (c .before .before .before) .fits _ (c .before .next .given .1))
 
 returns-3 : tie.Need-returns-3
 returns-3 c = rest (c .before .before .before) .value _ (c .before .next .given .1)
@@ -87,16 +81,14 @@ two-at-spec =
     digit-at-requires
     enum-known-first
     returns
+    mul-from
     add-digit-at
-    mul-less
     less-requires
     sub-least
-    mul-less-2
     less-requires-2
     least-requires
     digit-at-requires-2
     enum-known-next
     returns-2
-    mul-t10
-    add-t16
+    add-t11
     returns-3)

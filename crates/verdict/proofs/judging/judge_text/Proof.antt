@@ -1,5 +1,5 @@
-use denote.Ref.{now}
-use Rattle.verdict.proofs.Answers.{judged-refused, lent, judged-read}
+use mathlib.Core.List.{[]}
+use Rattle.verdict.proofs.Answers.{text-refused, sign-few, text-judged}
 use borrow.Author.Needs.{needs}
 use Rattle.verdict.proofs.judging.judge_text.Statement.{statement}
 use Rattle.verdict.proofs.judging.judge_text.Tie as tie
@@ -11,13 +11,13 @@ refused-requires : tie.Need-refused-requires
 refused-requires c κs = search needs
 
 returns : tie.Need-returns
-returns c = judged-refused _ _ _ _ _ _ _ (c .before .before .read-into .ensures) _ _ _ _ _ _ _ _ _ _ _ _ _ (c .before .if1 .taken) (c .refused .ensures)
+returns c = text-refused _ _ _ _ _ _ _ (c .before .before .read-into .ensures) _ _ (c .before .if1 .taken) (c .refused .ensures)
 
 judge-requires : tie.Need-judge-requires
-judge-requires c κs = lent (c .before .before .before .before .before .before .before .before .before .before .before .args .set) (now (c .before .before .before .before .before .before .before .before .before .before .before .args .text)) _ _ _ _ _ (c .before .before .before .before .before .read-into .ensures) _ _ _ _ _ _ _ _ _ _ _ _ (c .before .before .before .before .before .before .before .before .before .before .before .pre) (c .before .before .before .before .if1 .left)
+judge-requires c κs = (c .before .before .before .before .before .before .before .before .before .before .before .pre, (sign-few _ _ _ _ _ _ _ (c .before .before .before .before .before .read-into .ensures) [] (c .before .before .before .before .if1 .left)) .0, (sign-few _ _ _ _ _ _ _ (c .before .before .before .before .before .read-into .ensures) [] (c .before .before .before .before .if1 .left)) .1)
 
 returns-2 : tie.Need-returns-2
-returns-2 c = judged-read _ _ _ _ _ _ _ (c .before .before .before .before .before .before .read-into .ensures) _ _ _ _ _ _ _ _ _ _ _ _ _ (c .before .before .before .before .before .if1 .left) (c .judge .ensures)
+returns-2 c = text-judged _ _ _ _ _ _ _ (c .before .before .before .before .before .before .read-into .ensures) _ _ (c .before .before .before .before .before .if1 .left) (c .judge .ensures)
 
 pub judge-text-spec : {M : Type 1} → statement M
 judge-text-spec =

@@ -13,9 +13,6 @@ put-three-requires c κs = let e = ap (λ s. tokens s .numberSize) (c .before .e
 enum-told-2 : tie.Need-enum-told-2
 enum-told-2 c = search needs
 
-sub-put-character : tie.Need-sub-put-character
-sub-put-character c = search needs
-
 add-put-character : tie.Need-add-put-character
 add-put-character c = search needs
 
@@ -41,7 +38,6 @@ put-number-spec =
     enum-told
     put-three-requires
     enum-told-2
-    sub-put-character
     add-put-character
     put-character-requires
     same-length

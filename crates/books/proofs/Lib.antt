@@ -1,0 +1,4 @@
+pub mod Plain
+pub mod Rewriting
+pub mod Forms
+pub mod Fills

@@ -1,0 +1,85 @@
+use borrow.Author.Needs.{needs}
+use native.Mathlib.Omega.{arith}
+use Prim.Native.Nat.{_-_}
+use mathlib.Core.Path.{refl}
+use Rattle.writer.specs.Arrays.{upto, symbolAt}
+use Rattle.matching.proofs.Rows.{Judged, judged-start, judged-inside, judged-on, rows-not, rows-all}
+use Rattle.matching.proofs.judging.judge_rows.Statement.{statement}
+use Rattle.matching.proofs.judging.judge_rows.Tie as tie
+
+abbrev Inv-loop : tie.InvT-loop
+Inv-loop words at k codes xs ys n variance witnesses₀ i₀ j₀ witnesses i j = Judged words (upto (symbolAt codes xs ys) k) n i j witnesses
+
+abbrev μ-loop : tie.MeasureT-loop
+μ-loop words at k codes xs ys n variance witnesses₀ i₀ j₀ witnesses i j = n - j
+
+element-copy-out-n : tie.Need-element-copy-out-n Inv-loop μ-loop
+element-copy-out-n c = search needs
+
+cast-n : tie.Need-cast-n Inv-loop μ-loop
+cast-n c = search needs
+
+element-copy-out-variance : tie.Need-element-copy-out-variance Inv-loop μ-loop
+element-copy-out-variance c = search needs
+
+loop-holds : tie.Need-loop-holds Inv-loop μ-loop
+loop-holds c = judged-start _ _ _ _ (c .before .before .pre .1)
+
+add-condition : tie.Need-add-condition Inv-loop μ-loop
+add-condition c = omega (arith, c .before .before .before .before .pre .0 .items-most, c .loop-test .taken)
+
+cast-condition : tie.Need-cast-condition Inv-loop μ-loop
+cast-condition c = omega (arith, c .before .before .before .before .pre .0 .items-most, c .loop-test .taken)
+
+first-serving-requires : tie.Need-first-serving-requires Inv-loop μ-loop
+first-serving-requires c κs = (c .before .before .before .before .pre .2, judged-inside _ _ _ _ _ _ (c .before .loop .inv) (c .before .before .before .before .pre .0) refl (c .loop-test .taken))
+
+unmet-requires : tie.Need-unmet-requires Inv-loop μ-loop
+unmet-requires c κs = search needs
+
+returns : tie.Need-returns Inv-loop μ-loop
+returns c = rows-not _ _ _ _ _ _ (c .before .before .before .before .loop .inv) refl (c .before .before .before .loop-test .taken) _ (c .before .before .first-serving .ensures) (c .before .if1 .taken) _ (c .unmet .ensures)
+
+mul-witnesses : tie.Need-mul-witnesses Inv-loop μ-loop
+mul-witnesses c = omega (arith, c .before .before .before .before .before .before .pre .0 .items-most, c .before .before .loop-test .taken)
+
+array-write-witnesses : tie.Need-array-write-witnesses Inv-loop μ-loop
+array-write-witnesses c = omega (arith, c .before .before .before .before .before .before .pre .0 .items-most, c .before .before .loop-test .taken)
+
+next-row-requires : tie.Need-next-row-requires Inv-loop μ-loop
+next-row-requires c κs = judged-inside _ _ _ _ _ _ (c .before .before .before .loop .inv) (c .before .before .before .before .before .before .pre .0) refl (c .before .before .loop-test .taken)
+
+add-j : tie.Need-add-j Inv-loop μ-loop
+add-j c = omega (arith, c .before .before .before .before .before .before .before .pre .0 .items-most, c .before .before .before .loop-test .taken)
+
+loop-less : tie.Need-loop-less Inv-loop μ-loop
+loop-less c = omega (arith, c .before .before .before .loop-test .taken)
+
+loop-again : tie.Need-loop-again Inv-loop μ-loop
+loop-again c = judged-on _ _ _ _ _ _ (c .before .before .before .before .loop .inv) (c .before .before .before .loop-test .taken) _ (c .before .before .first-serving .ensures) (c .before .if1 .left) _ (c .next-row .ensures)
+
+returns-2 : tie.Need-returns-2 Inv-loop μ-loop
+returns-2 c = rows-all _ _ _ _ _ _ (c .before .loop .inv) refl (c .loop-test .left)
+
+pub judge-rows-spec : {M : Type 1} → statement M
+judge-rows-spec =
+    tie.close
+    (tie.spec
+    Inv-loop
+    μ-loop
+    element-copy-out-n
+    cast-n
+    element-copy-out-variance
+    loop-holds
+    add-condition
+    cast-condition
+    first-serving-requires
+    unmet-requires
+    returns
+    mul-witnesses
+    array-write-witnesses
+    next-row-requires
+    add-j
+    loop-less
+    loop-again
+    returns-2)

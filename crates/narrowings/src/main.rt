@@ -1,0 +1,69 @@
+// Runs of narrowing calls over small dictionaries. After each run it writes what was answered and the list memory, seven places that
+// held 9 before. The file stdout is written from document 01, "The dictionary and its list".
+use charset::Charset;
+use libc::STDOUT_FILENO;
+use runs::run_queries;
+
+fn put(key: &[u8], n: usize) {
+    io::write_all(STDOUT_FILENO, key);
+    io::print_decimal(STDOUT_FILENO, n as u64);
+}
+
+fn put_entry(e: u16) {
+    put(b" ", e as usize);
+}
+
+fn put_list(list: &[u16]) {
+    let mut i: usize = 0;
+    while i < list.len() {
+        put_entry(list[i]);
+        i += 1;
+    }
+}
+
+fn run(title: &[u8], dict: &[u8], queries: &[u8]) {
+    let mut list = [9u16; 7];
+    let r = run_queries(Charset::Fsw, dict, &mut list, queries);
+    io::write_all(STDOUT_FILENO, title);
+    put(b"number ", r.number as usize);
+    put(b", place ", r.place);
+    put(b", kept ", r.kept);
+    put(b", dropped ", r.dropped);
+    io::write_all(STDOUT_FILENO, b"\nlist");
+    put_list(&list);
+    io::write_all(STDOUT_FILENO, b"\n");
+}
+
+// Five lines: entries 2, 3 and 5 have S20500, entries 2 and 4 have S10000.
+fn run_five(title: &[u8], queries: &[u8]) {
+    run(
+        title,
+        b"M500x500\nM510x515S10000490x485S20500500x495\nM515x515S20500500x500\nM515x515S10000490x485\nM515x515S20500500x500\n",
+        queries,
+    );
+}
+
+fn main() {
+    run_five(b"- no query\n", b"");
+    run_five(b"- one query\n", b"QS20500\n");
+    run_five(
+        b"- two queries, with refused ones between them\n",
+        b"QS20500\nQX\nQR204t100\nQS10000\n",
+    );
+    run_five(
+        b"- the same the other way round\n",
+        b"QS10000\nQR204t100\nQX\nQS20500\n",
+    );
+    run_five(b"- refused queries only\n", b"QX\n\n");
+    run_five(b"- a last query that is not ended\n", b"QS20500\nQ");
+    run(
+        b"- a line that is no sign\n",
+        b"M500x500\nM500x5\n",
+        b"QS20500\n",
+    );
+    run(
+        b"- eight lines\n",
+        b"M500x500\nM500x500\nM500x500\nM500x500\nM500x500\nM500x500\nM500x500\nM500x500\n",
+        b"Q\n",
+    );
+}

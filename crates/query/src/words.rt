@@ -1,0 +1,188 @@
+// Reading a query into lent words: every item is read and counted, and the first 32 of the prefix and of the signbox are kept.
+ghost use mathlib.Core.Path.{_≡_};
+ghost use Prim.Native.Nat.{_+_, _≤_};
+ghost use lib.ListN.{length};
+ghost use Rattle.reader.specs.Signs.{zeros};
+ghost use Rattle.queryitem.specs.Words.{wordCount};
+ghost use Rattle.query.specs.Inner.{afterRows, LimitedInto, TailIn, Asks, OpensWith, Prefixed, PrefixIn, ReadInto};
+use queryitem::words::BEGINS;
+use queryitem::words::FIRST_ROW;
+use queryitem::words::FREE;
+use queryitem::words::MOST_ITEMS;
+use queryitem::words::PRESENT;
+use queryitem::words::ROW;
+use queryitem::words::WORDS;
+use querypart::items::Count;
+use querypart::items::counted;
+use querypart::items::items_into;
+use querypart::items::no_count;
+use querypart::items::or_earlier;
+use token::reading::Token;
+use token::refusal::DONE;
+use token::refusal::PREFIX_LONG;
+use token::refusal::RANGE_REVERSED;
+use token::refusal::SIGNBOX_LONG;
+use token::refusal::TEXT_SHORT;
+use token::refusal::TEXT_WRONG;
+
+// What a reading says beside the words that it was lent.
+pub struct Head {
+    pub number: u8,
+    pub place: usize,
+}
+
+fn answer(number: u8, place: usize) -> Head
+    ensures { λ r. ⌜ r ≡ record { number = number; place = place } ⌝ }
+{
+    Head { number, place }
+}
+
+// The offset after the rows of the prefix items, of which the first MOST_ITEMS are kept.
+fn after_rows(count: usize) -> usize
+    ensures { λ r. ⌜ r ≡ afterRows count ⌝ }
+{
+    if MOST_ITEMS < count {
+        return FIRST_ROW + ROW * MOST_ITEMS;
+    }
+    FIRST_ROW + ROW * count
+}
+
+// The limits and the order of ranges are judged after the text. The first four words are put last.
+fn limited_into(
+    words: &mut [u16; WORDS],
+    kind: u16,
+    before: usize,
+    count: usize,
+    variance: u16,
+    reversed: usize,
+) -> Head
+    requires { ⌜ length (now words) ≡ wordCount ⌝ }
+    ensures { λ r. ⌜ LimitedInto kind before count variance reversed (now (words .entry)) r (now (words .exit)) ⌝ }
+{
+    if MOST_ITEMS < before {
+        return answer(PREFIX_LONG, 0);
+    }
+    if MOST_ITEMS < count {
+        return answer(SIGNBOX_LONG, 0);
+    }
+    if reversed != 0 {
+        return answer(RANGE_REVERSED, reversed);
+    }
+    words[0] = kind;
+    words[1] = before as u16;
+    words[2] = count as u16;
+    words[3] = variance;
+    answer(DONE, 0)
+}
+
+// The signbox items and the variance, up to the end of the text, after a prefix condition of a kind, with so many
+// items, of which the first that is reversed stands at an offset.
+fn tail_into(
+    s: &[u8],
+    at: usize,
+    kind: u16,
+    before: usize,
+    earlier: usize,
+    words: &mut [u16; WORDS],
+) -> Head
+    requires { ⌜ (1 ≤ at) × (at ≤ length (now s)) × (length (now words) ≡ wordCount) ⌝ }
+    ensures { λ r. ⌜ TailIn (now (s .entry)) at kind before earlier (now (words .entry)) r (now (words .exit)) ⌝ }
+{
+    let from = after_rows(before);
+    let t = items_into(s, at, true, words, from);
+    let number = t.number;
+    let place = t.place;
+    if number != DONE {
+        return answer(number, place);
+    }
+    match querypart::variance::variance_end(s, place) {
+        Token::Value(v) => {
+            let reversed = or_earlier(earlier, t.reversed);
+            limited_into(words, kind, before, t.count, v, reversed)
+        }
+        Token::Wrong(p) => answer(TEXT_WRONG, p),
+        Token::Short => answer(TEXT_SHORT, s.len()),
+    }
+}
+
+// What the text asks of the prefix, by what follows the Q: T, the A of a prefix, or anything else.
+fn opens_with(s: &[u8]) -> u16
+    requires { ⌜ 1 ≤ length (now s) ⌝ }
+    ensures { λ r. ⌜ OpensWith (now (s .entry)) r ⌝ }
+{
+    match token::reading::byte_at(s, 1, b'T') {
+        Token::Value(_) => PRESENT,
+        Token::Wrong(_) => match token::reading::byte_at(s, 1, b'A') {
+            Token::Value(_) => BEGINS,
+            Token::Wrong(_) => FREE,
+            Token::Short => FREE,
+        },
+        Token::Short => FREE,
+    }
+}
+
+// The items of the prefix after their A, and the T.
+fn prefix_items_into(s: &[u8], words: &mut [u16; WORDS]) -> Count
+    requires { ⌜ Prefixed (now s) × (now words ≡ zeros wordCount) ⌝ }
+    ensures { λ r. ⌜ PrefixIn (now (s .entry)) 2 r (now (words .exit)) ⌝ }
+{
+    let t = items_into(s, 2, false, words, FIRST_ROW);
+    let number = t.number;
+    let place = t.place;
+    let count = t.count;
+    if number != DONE {
+        return t;
+    }
+    if count == 0 {
+        if place < s.len() {
+            return no_count(TEXT_WRONG, place);
+        }
+        return no_count(TEXT_SHORT, s.len());
+    }
+    match token::reading::byte_at(s, place, b'T') {
+        Token::Value(_) => counted(place + 1, count, t.reversed),
+        Token::Wrong(p) => no_count(TEXT_WRONG, p),
+        Token::Short => no_count(TEXT_SHORT, s.len()),
+    }
+}
+
+// What asks for a prefix, of a kind: nothing, T, or items.
+fn prefix_into(s: &[u8], kind: u16, words: &mut [u16; WORDS]) -> Count
+    requires { ⌜ Asks (now s) × (OpensWith (now s) kind) × (now words ≡ zeros wordCount) ⌝ }
+    ensures { λ r. ⌜ PrefixIn (now (s .entry)) kind r (now (words .exit)) ⌝ }
+{
+    if kind == BEGINS {
+        return prefix_items_into(s, words);
+    }
+    if kind == PRESENT {
+        return counted(2, 0, 0);
+    }
+    counted(1, 0, 0)
+}
+
+// What follows the Q.
+fn after_q_into(s: &[u8], words: &mut [u16; WORDS]) -> Head
+    requires { ⌜ Asks (now s) × (now words ≡ zeros wordCount) ⌝ }
+    ensures { λ r. ⌜ ReadInto (now (s .entry)) r (now (words .exit)) ⌝ }
+{
+    let kind = opens_with(s);
+    let t = prefix_into(s, kind, words);
+    let number = t.number;
+    let place = t.place;
+    if number != DONE {
+        return answer(number, place);
+    }
+    tail_into(s, place, kind, t.count, t.reversed, words)
+}
+
+// Reads a query into words that are zeros.
+pub fn read_into(s: &[u8], words: &mut [u16; WORDS]) -> Head
+    requires { ⌜ now words ≡ zeros wordCount ⌝ }
+    ensures { λ r. ⌜ ReadInto (now (s .entry)) r (now (words .exit)) ⌝ }
+{
+    match token::reading::byte_at(s, 0, b'Q') {
+        Token::Value(_) => after_q_into(s, words),
+        Token::Wrong(p) => answer(TEXT_WRONG, p),
+        Token::Short => answer(TEXT_SHORT, s.len()),
+    }
+}
