@@ -12,9 +12,9 @@ use Rattle.token.specs.Result.{Result, refusal, done, inRoom, output}
 use Rattle.token.proofs.Checks.{Counted, done-counted, check-done, check-counted}
 use Rattle.lines.specs.Lines.{isFew}
 use Rattle.lines.specs.Checked.{checkFew}
-use Rattle.run.specs.Narrowing.{rising, firstBad, checkLines}
-use Rattle.run.specs.Form.{FillLaws}
-use Rattle.run.proofs.Rising.{upTo-rising, all-readable}
+use Rattle.narrowing.specs.Narrowing.{rising, firstBad, checkLines}
+use Rattle.narrowing.specs.Form.{FillLaws}
+use Rattle.narrowing.proofs.Rising.{upTo-rising, all-readable}
 use Rattle.books.specs.Book.{Book, bookOf, otherText, readableIn, entriesIn, checkedIn, Sound}
 use Rattle.books.specs.Forms.{GoodBy}
 use Rattle.books.specs.Fills.{fillBy, openingIn}

@@ -10,11 +10,11 @@ use Rattle.format.specs.Format.{keep}
 use Rattle.grammar.specs.Sign.{Meaning}
 use Rattle.token.specs.Result.{Result, refusal, done}
 use Rattle.token.proofs.Checks.{Counted}
-use Rattle.run.specs.Narrowing.{listed, keptBy, narrowedBy}
-use Rattle.run.specs.Form.{plain, FormLaws}
-use Rattle.run.proofs.Keeping.{keep-all}
-use Rattle.run.proofs.Rising.{listed-is, none-bad}
-use Rattle.run.proofs.Runs.{onDone-counted}
+use Rattle.narrowing.specs.Narrowing.{listed, keptBy, narrowedBy}
+use Rattle.narrowing.specs.Form.{plain, FormLaws}
+use Rattle.narrowing.proofs.Keeping.{keep-all}
+use Rattle.narrowing.proofs.Rising.{listed-is, none-bad}
+use Rattle.narrowing.proofs.Runs.{onDone-counted}
 use Rattle.books.specs.Book.{Book, countIn, readableIn}
 use Rattle.books.specs.Forms.{asked, GoodBy, formBy}
 

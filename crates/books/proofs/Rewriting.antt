@@ -19,8 +19,8 @@ use Rattle.sign.proofs.Transcriptions.{transcription-laws}
 use Rattle.lines.specs.Lines.{lines, ended, firstLine, lineOf, bytesOf}
 use Rattle.lines.specs.LineLaws.{Plain}
 use Rattle.lines.proofs.Laws.{line-laws}
-use Rattle.run.specs.Narrowing.{entriesFrom}
-use Rattle.run.proofs.Rising.{upTo-rising, all-readable}
+use Rattle.narrowing.specs.Narrowing.{entriesFrom}
+use Rattle.narrowing.proofs.Rising.{upTo-rising, all-readable}
 use Rattle.entries.specs.Entries.{isDone}
 use Rattle.books.specs.Book.{Book, Text, bookOf, textOf, rewritten, otherText, readableIn, entriesIn, Sound}
 use Rattle.books.proofs.Plain.{sign-plain}

@@ -11,7 +11,7 @@ use Rattle.reader.specs.Signs.{signOf}
 use Rattle.sign.specs.Transcription.{otherSet, transcription}
 use Rattle.lines.specs.Lines.{lines, ended, isFew, lineOf, bytesOf}
 use Rattle.lines.specs.Checked.{checkEnded, checkFew, checkedCount}
-use Rattle.run.specs.Narrowing.{upTo, firstBad, checkLines}
+use Rattle.narrowing.specs.Narrowing.{upTo, firstBad, checkLines}
 use Rattle.entries.specs.Entries.{isDone}
 
 -- whether its bytes are ended, how many lines they have, and what the line of an entry says as a sign

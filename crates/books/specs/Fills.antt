@@ -4,7 +4,7 @@ use mathlib.Core.Path.{_≡_}
 use mathlib.Core.List.{List}
 use lib.ListN.{length}
 use Rattle.token.specs.Result.{Result, done, inRoom, output}
-use Rattle.run.specs.Form.{Fill}
+use Rattle.narrowing.specs.Form.{Fill}
 use Rattle.books.specs.Book.{Book, entriesIn, checkedIn}
 
 -- A call that writes entries at the start of the list, changes nothing after them and refuses a list too short for them as 6 with the

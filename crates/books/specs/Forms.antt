@@ -7,9 +7,9 @@ use mathlib.Core.Bool.{Bool, true}
 use Rattle.format.specs.Format.{All}
 use Rattle.grammar.specs.Sign.{Meaning}
 use Rattle.token.specs.Result.{Result, done, onDone}
-use Rattle.run.specs.declared.Narrowed.{Narrowed}
-use Rattle.run.specs.Narrowing.{narrowedBy}
-use Rattle.run.specs.Form.{Form}
+use Rattle.narrowing.specs.declared.Narrowed.{Narrowed}
+use Rattle.narrowing.specs.Narrowing.{narrowedBy}
+use Rattle.narrowing.specs.Form.{Form}
 use Rattle.books.specs.Book.{Book, countIn, readableIn}
 
 -- a query's refusal, or its test of an entry

@@ -19,11 +19,11 @@ use Rattle.lines.specs.declared.checked.Counted.{Counted}
 use Rattle.lines.specs.Lines.{lines as linesOf, lineOf, fewLines}
 use Rattle.lines.specs.Checked.{lineCount, countedAs}
 use Rattle.lines.proofs.Counts.{count-whole, count-refused, count-done}
-use Rattle.run.specs.declared.Narrowed.{Narrowed}
-use Rattle.run.specs.Narrowing.{rising, listed, firstBad, notNarrowed, filled, narrowedBy}
-use Rattle.run.proofs.Calls.{query-refused, dictionary-refused, list-refused, line-refused, call-done}
-use Rattle.run.proofs.Keeping.{keep-length}
-use Rattle.run.proofs.Rising.{rising-within, listed-room, listed-valid}
+use Rattle.narrowing.specs.declared.Narrowed.{Narrowed}
+use Rattle.narrowing.specs.Narrowing.{rising, listed, firstBad, notNarrowed, filled, narrowedBy}
+use Rattle.narrowing.proofs.Calls.{query-refused, dictionary-refused, list-refused, line-refused, call-done}
+use Rattle.narrowing.proofs.Keeping.{keep-length}
+use Rattle.narrowing.proofs.Rising.{rising-within, listed-room, listed-valid}
 use Rattle.list.specs.Flags.{isMet, isSign, marked, judgedTo}
 use Rattle.list.proofs.Flags.{marked-length, judged-length}
 use Rattle.entries.specs.Entries.{readable}

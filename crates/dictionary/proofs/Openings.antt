@@ -12,15 +12,15 @@ use Rattle.lines.specs.Lines.{lines, ended, fewLines}
 use Rattle.lines.specs.Checked.{lineCount}
 use Rattle.lines.proofs.Counts.{count-whole}
 use Rattle.dictionary.specs.declared.Opened.{Opened}
-use Rattle.run.specs.Narrowing.{entriesFrom, rising, checkLines}
-use Rattle.run.specs.Form.{Fill, FillLaws}
+use Rattle.narrowing.specs.Narrowing.{entriesFrom, rising, checkLines}
+use Rattle.narrowing.specs.Form.{Fill, FillLaws}
 use Rattle.entries.specs.Entries.{entriesOf, readable, firstWrong}
 use Rattle.books.specs.Book.{Book, bookOf, otherText, entriesIn, Sound}
 use Rattle.books.specs.Forms.{GoodBy}
 use Rattle.books.specs.Fills.{fillBy, openingIn}
 use Rattle.books.proofs.Fills.{AnswerLaws, fills-from, fill-laws, opening-laws, sound-checked}
 use Rattle.dictionary.specs.Opening.{opening, openedAs, opened}
-use Rattle.run.proofs.Rising.{entries-length}
+use Rattle.narrowing.proofs.Rising.{entries-length}
 
 module _ (set : Charset) (d : List ℕ) where
   pub opening-refused : (number place : ℕ) → lineCount d ≡ refusal number place → opening set d ≡ refusal number place

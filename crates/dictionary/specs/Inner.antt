@@ -6,8 +6,8 @@ use lib.ListN.{length}
 use Rattle.charset.specs.declared.Charset.{Charset}
 use Rattle.token.specs.Result.{done}
 use Rattle.lines.specs.Checked.{lineCount}
-use Rattle.run.specs.declared.Narrowed.{Narrowed}
-use Rattle.run.specs.Narrowing.{rising, narrowedBy}
+use Rattle.narrowing.specs.declared.Narrowed.{Narrowed}
+use Rattle.narrowing.specs.Narrowing.{rising, narrowedBy}
 use Rattle.entries.specs.Entries.{readable}
 use Rattle.entries.specs.Judging.{meetsWords}
 

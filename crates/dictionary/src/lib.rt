@@ -5,12 +5,12 @@ ghost use Rattle.dictionary.specs.Opening.{opening, opened};
 ghost use Rattle.dictionary.specs.Narrowing.{narrowed};
 use charset::Charset;
 use lines::checked::count_lines;
-use run::Narrowed;
+use narrowing::Narrowed;
 use token::refusal::DONE;
 use token::refusal::LINE_WRONG;
 use token::refusal::ROOM_SHORT;
 
-pub mod narrowing;
+pub mod lent;
 
 // What opening answers: the line count.
 pub struct Opened {
@@ -47,7 +47,7 @@ pub fn open(set: Charset, dict: &[u8], list: &mut [u16]) -> Opened
     if list.len() < n {
         return not_opened(ROOM_SHORT, n);
     }
-    list::entries::number_entries(list, n);
+    list::rising::number_entries(list, n);
     Opened {
         number: DONE,
         place: 0,
@@ -61,5 +61,5 @@ pub fn narrow(set: Charset, dict: &[u8], list: &mut [u16], n: usize, query: &[u8
     ensures { λ r. ⌜ (r, now (list .exit)) ≡ narrowed set (now (dict .entry)) (now (list .entry)) n (now (query .entry)) ⌝ }
 {
     let mut flags = [0u8; 65536];
-    narrowing::narrow_with(set, dict, list, n, query, &mut flags)
+    lent::narrow_with(set, dict, list, n, query, &mut flags)
 }

@@ -14,7 +14,7 @@ use Rattle.reader.specs.Signs.{signOf}
 use Rattle.reader.proofs.Limits.{Known, not-read, was-read, known}
 use Rattle.lines.specs.Lines.{lineOf}
 use Rattle.lines.proofs.Starts.{Line}
-use Rattle.run.specs.Narrowing.{entriesFrom, firstBad}
+use Rattle.narrowing.specs.Narrowing.{entriesFrom, firstBad}
 use Rattle.entries.specs.Entries.{isDone, firstWrong}
 
 -- what the reader's number says of the line that it read

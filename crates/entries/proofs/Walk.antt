@@ -21,7 +21,7 @@ use Rattle.matching.specs.Inner.{verdictWords}
 use Rattle.verdict.specs.Inner.{verdictOnWords}
 use Rattle.lines.specs.Lines.{lines as linesOf, firstLine, lineOf, lineStart}
 use Rattle.lines.proofs.Starts.{Line, start-first, start-within, line-at}
-use Rattle.run.specs.Narrowing.{firstBad}
+use Rattle.narrowing.specs.Narrowing.{firstBad}
 use Rattle.list.specs.Flags.{listedFlag, metFlag, noSignFlag, flagOf, isMet, isSign, marked, judgedTo}
 use Rattle.list.proofs.Flags.{keep-agree, bad-agree, marked-length, marked-all, judged-length, judged-all}
 use Rattle.entries.specs.Entries.{isDone, readable, firstWrong}

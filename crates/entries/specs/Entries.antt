@@ -6,7 +6,7 @@ use lib.ListN.{length}
 use Rattle.charset.specs.declared.Charset.{Charset}
 use Rattle.token.specs.Result.{Result, refusal, done}
 use Rattle.reader.specs.Signs.{signOf}
-use Rattle.run.specs.Narrowing.{upTo, firstBad}
+use Rattle.narrowing.specs.Narrowing.{upTo, firstBad}
 use Rattle.lines.specs.Lines.{lines, lineOf}
 
 -- 1 to the line count

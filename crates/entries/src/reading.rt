@@ -3,7 +3,7 @@ ghost use mathlib.Core.Path.{_≡_};
 ghost use Prim.Native.Nat.{_≤_};
 ghost use lib.ListN.{length};
 ghost use Rattle.lines.specs.Lines.{lines};
-ghost use Rattle.run.specs.Narrowing.{entriesFrom};
+ghost use Rattle.narrowing.specs.Narrowing.{entriesFrom};
 ghost use Rattle.entries.specs.Entries.{firstWrong};
 use charset::Charset;
 use lines::walk::line_end;

@@ -10,7 +10,7 @@ use lib.Seq.{drop-at, drop-drop}
 use native.Mathlib.Omega.{arith}
 use borrow.Author.Tests.{ltb-true, ltb-false}
 use Rattle.format.specs.Format.{Answer, value, other, wrong, short, Format, first, second, sequence, mapped, either, orElse}
-use Rattle.format.specs.Located.{Located, found, wrongAt, cut, located, locate, andThen, onFound}
+use Rattle.format.specs.Located.{Located, found, wrongAt, shortHere, located, locate, andThen, onFound}
 use Rattle.format.proofs.Lawful.{Lawful, Says}
 use Rattle.format.proofs.Delimited.{Firm, Delimited, Fixed, solid}
 
@@ -27,7 +27,7 @@ found-inv e = (cc, cc)
 wrong-found : {A : Type 0} {X : Type 0} {p i : ℕ} {a : A} → wrongAt p ≡ found a i → X
 wrong-found e = absurd (let z : _≡_ {A = ℕ} 0 1 = cc in omega arith)
 
-cut-found : {A : Type 0} {X : Type 0} {i : ℕ} {a : A} → cut ≡ found a i → X
+cut-found : {A : Type 0} {X : Type 0} {i : ℕ} {a : A} → shortHere ≡ found a i → X
 cut-found e = absurd (let z : _≡_ {A = ℕ} 0 1 = cc in omega arith)
 
 got-value : {A : Type 0} (f : Format A) (s : List ℕ) (at : ℕ) (v : A) (rest : List ℕ) → at ≤ length s → f .read (drop at s) ≡ value v rest
@@ -92,13 +92,13 @@ module _ {A : Type 0} (w : ℕ) (f : Format A) (d : Delimited w f) (s : List ℕ
   wronged = firm-strays f (d .firm) s at
 
 module _ {A : Type 0} (f : Format A) (s : List ℕ) (at : ℕ) where
-  cut-go : (r : Answer A) → located (length s) at r ≡ cut → r ≡ short
+  cut-go : (r : Answer A) → located (length s) at r ≡ shortHere → r ≡ short
   cut-go (value v rest) q = absurd (let z : _≡_ {A = ℕ} 0 1 = cc in omega arith)
   cut-go other q = absurd (let z : _≡_ {A = ℕ} 0 1 = cc in omega arith)
   cut-go (wrong rest) q = absurd (let z : _≡_ {A = ℕ} 0 1 = cc in omega arith)
   cut-go short q = refl
 
-  pub cut-reads : locate f s at ≡ cut → f .read (drop at s) ≡ short
+  pub cut-reads : locate f s at ≡ shortHere → f .read (drop at s) ≡ short
   unfolding locate
   cut-reads e = cut-go (f .read (drop at s)) e
 

@@ -10,8 +10,8 @@ use lib.Seq.{drop-cons}
 use native.Mathlib.Omega.{arith}
 use borrow.Author.Tests.{eq-eqb, ne-eqb, lt-ltb, le-ltb, ltb-true, ltb-false}
 use Rattle.format.specs.Format.{Answer, value, other, wrong, short, Format, choose, first, second, sequence, optional, maybe, endRead, many}
-use Rattle.format.specs.Places.{Outcome, fine, refused, unfinished, outcome, reading}
-use Rattle.format.specs.Located.{Located, found, wrongAt, cut, located, locate, andThen, onFound, ended}
+use Rattle.format.specs.Places.{Outcome, fine, refused, endsShort, outcome, reading}
+use Rattle.format.specs.Located.{Located, found, wrongAt, shortHere, located, locate, andThen, onFound, ended}
 use Rattle.format.proofs.Lawful.{Lawful, Says}
 use Rattle.format.proofs.Delimited.{Delimited, nonempty}
 use Rattle.format.proofs.At.{sequence-at, Strays, here, later, wronged}
@@ -20,18 +20,18 @@ use Rattle.format.proofs.Loop.{Open, delimited-open, many-on, many-done
 unfoldable pub onFine : {A B : Type 0} → (A → B) → Outcome A → Outcome B
 onFine to (fine a) = fine (to a)
 onFine to (refused p) = refused p
-onFine to unfinished = unfinished
+onFine to endsShort = endsShort
 
 pub ended-on : {A B : Type 0} (w size : ℕ) (to : A → B) (l : Located A) → ended w size (onFound to l) ≡ onFine to (ended w size l)
 unfolding onFine
 ended-on w size to (found a i) = go (eqb i size) (ltb size (i + w))
   where
-    go : (p q : Bool) → choose p (fine (to a)) (choose q unfinished (refused i)) ≡ onFine to (choose p (fine a) (choose q unfinished (refused i)))
+    go : (p q : Bool) → choose p (fine (to a)) (choose q endsShort (refused i)) ≡ onFine to (choose p (fine a) (choose q endsShort (refused i)))
     go true q = refl
     go false true = refl
     go false false = refl
 ended-on w size to (wrongAt p) = refl
-ended-on w size to cut = refl
+ended-on w size to shortHere = refl
 
 -- bytes that are left after a value
 left-go : {A : Type 0} (w : ℕ) (text : List ℕ) (v : A) (rest : List ℕ) → 1 ≤ length rest → length rest ≤ length text → (t : Bool) → ltb (length rest) w ≡ t
@@ -86,7 +86,7 @@ module _ {A : Type 0} (f : Format A) (s : List ℕ) (at : ℕ) where
   unfolding locate
   optional-bad rest e = ap (λ r. located (length s) at (opt r)) e
 
-  pub optional-cut : at < length s → f .read (drop at s) ≡ short → locate (optional f) s at ≡ cut
+  pub optional-cut : at < length s → f .read (drop at s) ≡ short → locate (optional f) s at ≡ shortHere
   unfolding locate
   optional-cut h e =
       ap (λ r. located (length s) at (opt r)) e
@@ -116,11 +116,11 @@ module _ {A B : Type 0} (f : Format A) (g : A → Format B) (s : List ℕ) (at :
   pub optional-other : at ≤ length s → f .read (drop at s) ≡ other → locate (optional (sequence f g)) s at ≡ found none at
   optional-other h e = optional-none (sequence f g) s at h (ap (λ r. first r then) e)
 
-  pub optional-short : at < length s → f .read (drop at s) ≡ short → locate (optional (sequence f g)) s at ≡ cut
+  pub optional-short : at < length s → f .read (drop at s) ≡ short → locate (optional (sequence f g)) s at ≡ shortHere
   optional-short h e = optional-cut (sequence f g) s at h (ap (λ r. first r then) e)
 
 -- An empty text.
-pub locate-empty : {A : Type 0} (f : Format A) (s : List ℕ) → [] ≡ s → f .read [] ≡ short → locate f s 0 ≡ cut
+pub locate-empty : {A : Type 0} (f : Format A) (s : List ℕ) → [] ≡ s → f .read [] ≡ short → locate f s 0 ≡ shortHere
 unfolding locate
 locate-empty f s e o = ap (located (length s) 0) (ap (f .read) (sym e) ∙ o)
 
@@ -132,10 +132,10 @@ optional-empty {A = A} {B = B} f g s e o =
 
 -- One or more, from what zero or more find.
 abbrev pub oneOrMore : {A : Type 0} → ℕ → Located (List A) → Located (A × List A)
-oneOrMore size (found [] i) = choose (ltb i size) (wrongAt i) cut
+oneOrMore size (found [] i) = choose (ltb i size) (wrongAt i) shortHere
 oneOrMore size (found (a ∷ l) i) = found (a, l) i
 oneOrMore size (wrongAt p) = wrongAt p
-oneOrMore size cut = cut
+oneOrMore size shortHere = shortHere
 
 module _ {A : Type 0} (w : ℕ) (f : Format A) (d : Delimited w f) (s : List ℕ) (at : ℕ) (h : at ≤ length s) where
   abbrev goes : A → ℕ → Located (A × List A)
@@ -147,7 +147,7 @@ module _ {A : Type 0} (w : ℕ) (f : Format A) (d : Delimited w f) (s : List ℕ
   more-go : (a : A) (m : Located (List A)) → onFound {B = A × List A} (λ l. (a, l)) m ≡ oneOrMore (length s) (onFound (λ l. a ∷ l) m)
   more-go a (found l i) = refl
   more-go a (wrongAt p) = refl
-  more-go a cut = refl
+  more-go a shortHere = refl
 
   wrong-go : (p : ℕ) → locate f s at ≡ wrongAt p → Strays f s at p → wrongAt p ≡ oneOrMore (length s) (locate (many f) s at)
   wrong-go p e (here z y) =
@@ -155,7 +155,7 @@ module _ {A : Type 0} (w : ℕ) (f : Format A) (d : Delimited w f) (s : List ℕ
       sym (ap (oneOrMore (length s)) (many-done w f o s at h (e ∙ ap wrongAt z)) ∙ rw (lt-ltb at (length s) k) (ap wrongAt (sym z)))
   wrong-go p e (later rest z k y) = sym (ap (oneOrMore (length s)) (many-bad w f o s at p e (λ q. omega arith)))
 
-  cut-go : locate f s at ≡ cut → (t : Bool) → ltb at (length s) ≡ t → cut ≡ oneOrMore (length s) (locate (many f) s at)
+  cut-go : locate f s at ≡ shortHere → (t : Bool) → ltb at (length s) ≡ t → shortHere ≡ oneOrMore (length s) (locate (many f) s at)
   cut-go e true q = sym (ap (oneOrMore (length s)) (many-cut w f o s at (ltb-true at (length s) q) e))
   cut-go e false q =
       let k : length s ≡ at = omega (arith, ltb-false at (length s) q) in
@@ -164,7 +164,7 @@ module _ {A : Type 0} (w : ℕ) (f : Format A) (d : Delimited w f) (s : List ℕ
   one-go : (x : Located A) → locate f s at ≡ x → andThen x goes ≡ oneOrMore (length s) (locate (many f) s at)
   one-go (found a i) e = more-go a (locate (many f) s i) ∙ ap (oneOrMore (length s)) (sym (many-on w f o s at h a i e))
   one-go (wrongAt p) e = wrong-go p e (wronged w f d s at p e)
-  one-go cut e = cut-go e (ltb at (length s)) refl
+  one-go shortHere e = cut-go e (ltb at (length s)) refl
 
   pub one-or-more : locate (sequence f λ a. many f) s at ≡ oneOrMore (length s) (locate (many f) s at)
   one-or-more = sequence-at w f (λ a. many f) d s at ∙ one-go (locate f s at) refl

@@ -6,7 +6,7 @@ use lib.ListN.{length, drop, length-drop, drop-of-length-le}
 use lib.Seq.{drop-cons}
 use native.Mathlib.Omega.{arith}
 use Rattle.format.specs.Format.{Answer, value, other, wrong, short, Format, second, maybe, many}
-use Rattle.format.specs.Located.{Located, found, wrongAt, cut, located, locate, onFound}
+use Rattle.format.specs.Located.{Located, found, wrongAt, shortHere, located, locate, onFound}
 use Rattle.format.proofs.Lawful.{Lawful}
 use Rattle.format.proofs.Many.{step}
 use Rattle.format.proofs.Delimited.{Firm, Delimited, solid}
@@ -72,7 +72,7 @@ module _ {A : Type 0} (w : ℕ) (f : Format A) (d : Open w f) (s : List ℕ) (i 
       go (here z o) = absurd (n z)
       go (later rest z k o) = steps (wrong rest) o ∙ ap wrongAt (sym z)
 
-  pub many-cut : i < length s → locate f s i ≡ cut → all ≡ cut
+  pub many-cut : i < length s → locate f s i ≡ shortHere → all ≡ shortHere
   many-cut h e =
       let z = drop-cons s i 0 h in
       steps short (cut-reads f s i e) ∙ ap (λ t. located (length s) i (maybe {A = A} [] t short λ a rest. second (λ l. a ∷ l) rest (many f .read rest))) z
@@ -84,12 +84,12 @@ behind done = onFound (λ l. done ++ l)
 behind-nil : {A : Type 0} (r : Located (List A)) → r ≡ behind [] r
 behind-nil (found l i) = refl
 behind-nil (wrongAt p) = refl
-behind-nil cut = refl
+behind-nil shortHere = refl
 
 behind-one : {A : Type 0} (done : List A) (a : A) (r : Located (List A)) → behind done (onFound (λ l. a ∷ l) r) ≡ behind (done ++ (a ∷ [])) r
 behind-one done a (found l i) = ap (λ m. found m i) (sym (append-assoc done (a ∷ []) l))
 behind-one done a (wrongAt p) = refl
-behind-one done a cut = refl
+behind-one done a shortHere = refl
 
 -- What a loop knows: these were read up to i, and what is left leads to the same whole.
 pub record Walk {A : Type 0} (f : Format A) (s : List ℕ) (at i : ℕ) (done : List A) : Type 0 where
@@ -122,7 +122,7 @@ module _ {A : Type 0} (w : ℕ) (f : Format A) (d : Open w f) (s : List ℕ) (at
   pub open-bad : (p : ℕ) → locate f s i ≡ wrongAt p → (p ≡ i → ⊥) → locate (many f) s at ≡ wrongAt p
   open-bad p e n = k .leads ∙ ap (behind done) (many-bad w f d s i p e n)
 
-  pub open-cut : i < length s → locate f s i ≡ cut → locate (many f) s at ≡ cut
+  pub open-cut : i < length s → locate f s i ≡ shortHere → locate (many f) s at ≡ shortHere
   open-cut h e = k .leads ∙ ap (behind done) (many-cut w f d s i h e)
 
 -- the same of a delimited format
@@ -139,5 +139,5 @@ module _ {A : Type 0} (w : ℕ) (f : Format A) (d : Delimited w f) (s : List ℕ
   pub walk-bad : (p : ℕ) → locate f s i ≡ wrongAt p → (p ≡ i → ⊥) → locate (many f) s at ≡ wrongAt p
   walk-bad = open-bad w f (delimited-open w f d) s at i done k
 
-  pub walk-cut : i < length s → locate f s i ≡ cut → locate (many f) s at ≡ cut
+  pub walk-cut : i < length s → locate f s i ≡ shortHere → locate (many f) s at ≡ shortHere
   walk-cut = open-cut w f (delimited-open w f d) s at i done k

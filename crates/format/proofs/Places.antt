@@ -11,7 +11,7 @@ use native.Mathlib.Omega.{arith}
 use native.Mathlib.Nat.{suc-mul, mul-one, mul-le-mul-right, lt-of-mul-lt-mul-right}
 use borrow.Author.Tests.{ltb-true, ltb-false}
 use Rattle.format.specs.Format.{Answer, value, other, wrong, short, Format, sequence, end}
-use Rattle.format.specs.Places.{whole, Begins, Formed, Outcome, fine, refused, unfinished, outcome, reading, Refused, Unfinished, Means, ByBytes}
+use Rattle.format.specs.Places.{whole, Begins, Formed, Outcome, fine, refused, endsShort, outcome, reading, Refused, EndsShort, Means, ByBytes}
 use Rattle.format.proofs.Lawful.{Says}
 use Rattle.format.proofs.Reading.{whole-inverse, whole-written, reads-formed}
 use Rattle.format.proofs.Exact.{Exact, Fails}
@@ -121,7 +121,7 @@ module _ {A : Type 0} (w : ℕ) (f : Format A) (l : Exact w f) (ready : (v : A) 
   below : (text : List ℕ) (p q : ℕ) → Refused w f text p → Refused w f text q → p < q → ⊥
   below text p q a b k = a .never (begins-less f text (p + w) q (apart w (a .unit) (b .unit) p q (a .multiple) (b .multiple) k) (b .begins))
 
-  uncut : (text : List ℕ) (p : ℕ) → Refused w f text p → Unfinished w f text → ⊥
+  uncut : (text : List ℕ) (p : ℕ) → Refused w f text p → EndsShort w f text → ⊥
   uncut text p a b =
       a .never (begins-less f text (p + w) (b .units * w) (apart w (a .unit) (b .units) p (b .units * w) (a .multiple) refl (omega (arith, a .inside, b .less))) (b .begins))
 
@@ -135,13 +135,13 @@ module _ {A : Type 0} (w : ℕ) (f : Format A) (l : Exact w f) (ready : (v : A) 
   one-outcome text (fine v) (fine u) a b =
       same-value (sym (reads v (a .0)) ∙ ap (h .read) (sym (a .1) ∙ b .1) ∙ reads u (b .0))
   one-outcome text (fine v) (refused p) a b = absurd (b .never (formed-begins f text (p + w) v (a .0) (a .1)))
-  one-outcome text (fine v) unfinished a b = absurd (b .unformed (record { says = v; valid = a .0; is = a .1 }))
+  one-outcome text (fine v) endsShort a b = absurd (b .unformed (record { says = v; valid = a .0; is = a .1 }))
   one-outcome text (refused p) (fine v) a b = absurd (a .never (formed-begins f text (p + w) v (b .0) (b .1)))
   one-outcome text (refused p) (refused q) a b = ap refused (same-place text p q a b (ltb p q) (ltb q p) refl refl)
-  one-outcome text (refused p) unfinished a b = absurd (uncut text p a b)
-  one-outcome text unfinished (fine v) a b = absurd (a .unformed (record { says = v; valid = b .0; is = b .1 }))
-  one-outcome text unfinished (refused p) a b = absurd (uncut text p b a)
-  one-outcome text unfinished unfinished a b = refl
+  one-outcome text (refused p) endsShort a b = absurd (uncut text p a b)
+  one-outcome text endsShort (fine v) a b = absurd (a .unformed (record { says = v; valid = b .0; is = b .1 }))
+  one-outcome text endsShort (refused p) a b = absurd (uncut text p b a)
+  one-outcome text endsShort endsShort a b = refl
 
   -- THE LAW OF PLACES, both ways: an outcome is given exactly where it holds
   pub exactly : (text : List ℕ) (o : Outcome A) → (reading w f text ≡ o) ↔ Means w f text o
@@ -169,12 +169,12 @@ module _ {A : Type 0} (f : Format A) (l : Exact 1 f) (ready : (v : A) → f .Val
         }),
   )
 
-  short-exactly : (text : List ℕ) → (reading 1 f text ≡ unfinished) ↔ (Begins f text × (Formed f text → ⊥))
+  short-exactly : (text : List ℕ) → (reading 1 f text ≡ endsShort) ↔ (Begins f text × (Formed f text → ⊥))
   short-exactly text = (
-    λ e. let m = exactly 1 f l ready text unfinished .0 e in
+    λ e. let m = exactly 1 f l ready text endsShort .0 e in
         let k : m .units * 1 ≡ length text = omega (arith, m .inside, m .less) in
         (rw (k, take-all (length text) text (omega arith)) at (m .begins), m .unformed),
-    λ m. exactly 1 f l ready text unfinished .1
+    λ m. exactly 1 f l ready text endsShort .1
         (record {
           units = length text;
           inside = omega arith;

@@ -4,19 +4,19 @@ use mathlib.Core.List.{List}
 use lib.Dec.{eqb, ltb}
 use lib.ListN.{length, drop}
 use Rattle.format.specs.Format.{Answer, value, other, wrong, short, Format, choose}
-use Rattle.format.specs.Places.{Outcome, fine, refused, unfinished}
+use Rattle.format.specs.Places.{Outcome, fine, refused, endsShort}
 
 -- a value and the offset after it; the offset of the first unit that is not allowed; or that the text ends too soon
 pub data Located (A : Type 0) : Type 0 where
   found : A → ℕ → Located A
   wrongAt : ℕ → Located A
-  cut : Located A
+  shortHere : Located A
 
 abbrev pub located : {A : Type 0} → ℕ → ℕ → Answer A → Located A
 located size at (value v rest) = found v (size - length rest)
 located size at other = wrongAt at
 located size at (wrong rest) = wrongAt (size - length rest)
-located size at short = cut
+located size at short = shortHere
 
 unfoldable pub locate : {A : Type 0} → Format A → List ℕ → ℕ → Located A
 locate f s at = located (length s) at (f .read (drop at s))
@@ -25,15 +25,15 @@ locate f s at = located (length s) at (f .read (drop at s))
 abbrev pub andThen : {A B : Type 0} → Located A → (A → ℕ → Located B) → Located B
 andThen (found a i) k = k a i
 andThen (wrongAt p) k = wrongAt p
-andThen cut k = cut
+andThen shortHere k = shortHere
 
 abbrev pub onFound : {A B : Type 0} → (A → B) → Located A → Located B
 onFound to (found a i) = found (to a) i
 onFound to (wrongAt p) = wrongAt p
-onFound to cut = cut
+onFound to shortHere = shortHere
 
 -- a format and then the end of a text of size bytes, which is read in units of w
 abbrev pub ended : {A : Type 0} → ℕ → ℕ → Located A → Outcome A
-ended w size (found v i) = choose (eqb i size) (fine v) (choose (ltb size (i + w)) unfinished (refused i))
+ended w size (found v i) = choose (eqb i size) (fine v) (choose (ltb size (i + w)) endsShort (refused i))
 ended w size (wrongAt p) = refused p
-ended w size cut = unfinished
+ended w size shortHere = endsShort

@@ -33,13 +33,13 @@ whole w f = mapped (sequence f (λ a. end w)) (λ p. p .0) (λ a. (a, tt)) (f .V
 pub data Outcome (A : Type 0) : Type 0 where
   fine : A → Outcome A
   refused : ℕ → Outcome A
-  unfinished : Outcome A
+  endsShort : Outcome A
 
 abbrev pub outcome : {A : Type 0} → List ℕ → Answer A → Outcome A
 outcome text (value v rest) = fine v
 outcome text other = refused 0
 outcome text (wrong rest) = refused (length text - length rest)
-outcome text short = unfinished
+outcome text short = endsShort
 
 abbrev pub reading : {A : Type 0} → ℕ → Format A → List ℕ → Outcome A
 reading w f text = outcome text (whole w f .read text)
@@ -53,7 +53,7 @@ pub record Refused {A : Type 0} (w : ℕ) (f : Format A) (text : List ℕ) (p : 
   pub never : Begins f (take (p + w) text) → ⊥
 
 -- all whole units begin a well-formed text, and the text is not well-formed
-pub record Unfinished {A : Type 0} (w : ℕ) (f : Format A) (text : List ℕ) : Type 0 where
+pub record EndsShort {A : Type 0} (w : ℕ) (f : Format A) (text : List ℕ) : Type 0 where
   pub units : ℕ
   pub inside : units * w ≤ length text
   pub less : length text < units * w + w
@@ -64,10 +64,10 @@ pub record Unfinished {A : Type 0} (w : ℕ) (f : Format A) (text : List ℕ) : 
 abbrev pub Means : {A : Type 0} → ℕ → Format A → List ℕ → Outcome A → Type 0
 Means w f text (fine v) = f .Valid v × (text ≡ f .write v)
 Means w f text (refused p) = Refused w f text p
-Means w f text unfinished = Unfinished w f text
+Means w f text endsShort = EndsShort w f text
 
 -- The same where a unit is a byte, in the words of document 01: the place of 1 is the length of the longest beginning
 -- that some well-formed text shares, and a text that is such a beginning but not well-formed is 2.
 pub record ByBytes {A : Type 0} (f : Format A) : Type 0 where
   pub wrong : (text : List ℕ) (p : ℕ) → (reading 1 f text ≡ refused p) ↔ (Begins f (take p text) × (Begins f (take (p + 1) text) → ⊥))
-  pub short : (text : List ℕ) → (reading 1 f text ≡ unfinished) ↔ (Begins f text × (Formed f text → ⊥))
+  pub short : (text : List ℕ) → (reading 1 f text ≡ endsShort) ↔ (Begins f text × (Formed f text → ⊥))

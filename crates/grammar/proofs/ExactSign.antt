@@ -9,7 +9,7 @@ use Rattle.format.proofs.Delimited.{Fixed, solid}
 use Rattle.charset.specs.declared.Charset.{Charset}
 use Rattle.charset.specs.Tokens.{Tokens, tokens, lastWriting, lastLocation}
 use Rattle.charset.proofs.Sets.{LawfulTokens, lawful, ExactTokens, exact}
-use Rattle.grammar.specs.Sign.{Valid, point, placed, prefixSymbol, prefixSymbols, prefix, head, spatial, signbox, parts, toMeaning, ofMeaning, sign}
+use Rattle.grammar.specs.Sign.{Valid, point, placed, prefixSymbol, prefixSymbols, prefix, lead, spatial, signbox, parts, toMeaning, ofMeaning, sign}
 use Rattle.grammar.proofs.Sign.{symbol-fixed, spatial-fixed, sign-inverse}
 
 module _ (t : Tokens) (x : ExactTokens t) where
@@ -34,7 +34,7 @@ module _ (t : Tokens) (l : LawfulTokens t) (x : ExactTokens t) where
 
   signbox-exact : Exact (t .unit) (signbox t)
   signbox-exact =
-      sequence-exact (t .unit) (head t) (λ h. many (spatial t)) (placed-exact t x (t .marker 1 4) (x .marker 1 4 (omega arith) (omega arith))) λ h ok.
+      sequence-exact (t .unit) (lead t) (λ h. many (spatial t)) (placed-exact t x (t .marker 1 4) (x .marker 1 4 (omega arith) (omega arith))) λ h ok.
       all-exact _ (spatial t) (spatial-fixed t l) (placed-exact t x (t .symbol lastWriting) (x .symbol lastWriting (omega arith) (omega arith)))
 
   parts-exact : Exact (t .unit) (parts t)

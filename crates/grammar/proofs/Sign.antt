@@ -16,7 +16,7 @@ use Rattle.charset.specs.declared.Charset.{Charset}
 use Rattle.charset.specs.declared.Charset.the-variants.{Fsw, Swu}
 use Rattle.charset.specs.Tokens.{Tokens, tokens, fsw, lastWriting, lastLocation, lastCode}
 use Rattle.charset.proofs.Sets.{LawfulTokens, lawful}
-use Rattle.grammar.specs.Sign.{Spatial, Meaning, ValidSymbol, Valid, point, placed, prefixSymbol, prefixSymbols, prefix, head, spatial, signbox, parts, Parts, toSpatial, ofSpatial, toPrefix, ofPrefix, toMeaning, ofMeaning, sign}
+use Rattle.grammar.specs.Sign.{Spatial, Meaning, ValidSymbol, Valid, point, placed, prefixSymbol, prefixSymbols, prefix, lead, spatial, signbox, parts, Parts, toSpatial, ofSpatial, toPrefix, ofPrefix, toMeaning, ofMeaning, sign}
 
 -- what may follow zero or more tokens: what may not begin one
 pub all-follow : {A : Type 0} (w : ℕ) (f : Format A) → Delimited w f → (v : List A) (rest : List ℕ) → many f .Valid v → Absent rest (f .read rest) → FollowAll f v rest
@@ -36,8 +36,8 @@ module _ (t : Tokens) (l : LawfulTokens t) where
   pub symbol-fixed : Fixed (t .unit) (t .symbolSize) (prefixSymbol t)
   symbol-fixed = l .symbolOrNull lastLocation (omega arith) (omega arith)
 
-  pub head-fixed : Fixed (t .unit) (t .markerSize + (t .numberSize + t .secondSize)) (head t)
-  head-fixed = placed-fixed (t .markerSize) (t .marker 1 4) (l .marker 1 4 (omega arith) (omega arith))
+  pub lead-fixed : Fixed (t .unit) (t .markerSize + (t .numberSize + t .secondSize)) (lead t)
+  lead-fixed = placed-fixed (t .markerSize) (t .marker 1 4) (l .marker 1 4 (omega arith) (omega arith))
 
   pub spatial-fixed : Fixed (t .unit) (t .symbolSize + (t .numberSize + t .secondSize)) (spatial t)
   spatial-fixed = placed-fixed (t .symbolSize) (t .symbol lastWriting) (l .symbol lastWriting (omega arith) (omega arith))
@@ -53,7 +53,7 @@ module _ (t : Tokens) (l : LawfulTokens t) where
 
   pub signbox-lawful : Lawful (t .unit) (signbox t)
   signbox-lawful =
-      sequence-lawful (t .unit) (head t) (λ h. many (spatial t)) (head-fixed .delimited .lawful) λ h ok.
+      sequence-lawful (t .unit) (lead t) (λ h. many (spatial t)) (lead-fixed .delimited .lawful) λ h ok.
       many-fixed (t .symbolSize + (t .numberSize + t .secondSize)) (spatial t) spatial-fixed
 
   parts-lawful : Lawful (t .unit) (parts t)
@@ -90,7 +90,7 @@ module _ (t : Tokens) (l : LawfulTokens t) where
       let box = ok .1 in (
         (
           all-follow (t .unit) (spatial t) (spatial-fixed .delimited) (b .1) [] (box .1) (rw (spatial-fixed .delimited .empty) tt),
-          head-fixed .delimited .free (b .0) _ (box .0),
+          lead-fixed .delimited .free (b .0) _ (box .0),
         ),
         prefix-follow (v .0) b [] (ok .0) box,
       )

@@ -9,8 +9,8 @@ use Rattle.format.proofs.Places.{exactly, by-bytes}
 use Rattle.charset.specs.declared.Charset.{Charset}
 use Rattle.charset.specs.declared.Charset.the-variants.{Fsw}
 use Rattle.charset.specs.Tokens.{tokens}
-use Rattle.grammar.specs.Sign.{Meaning, Valid, sign, signText}
-use Rattle.grammar.specs.SignLaws.{readSign, SignLaws, FswPlaces}
+use Rattle.grammar.specs.Sign.{Meaning, Valid, sign, signText, readSign}
+use Rattle.grammar.specs.SignLaws.{SignLaws, FswPlaces}
 use Rattle.grammar.proofs.Sign.{sign-lawful, sign-ready}
 use Rattle.grammar.proofs.ExactSign.{sign-exact}
 

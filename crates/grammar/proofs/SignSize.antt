@@ -12,9 +12,10 @@ use Rattle.charset.specs.declared.Charset.{Charset}
 use Rattle.charset.specs.declared.Charset.the-variants.{Fsw, Swu}
 use Rattle.charset.specs.Tokens.{Tokens, tokens, lastLocation, lastCode}
 use Rattle.charset.proofs.Sets.{lawful}
-use Rattle.grammar.specs.Sign.{Meaning, ValidSymbol, Valid, prefixSymbol, prefix, head, spatial, ofSpatial, ofPrefix, signText}
-use Rattle.grammar.specs.SignLaws.{headSize, spatialSize, prefixSize, signSize, longest, Longest}
-use Rattle.grammar.proofs.Sign.{symbol-fixed, head-fixed, spatial-fixed, sound}
+use Rattle.grammar.specs.Sign.{Meaning, ValidSymbol, Valid, prefixSymbol, prefix, lead, spatial, ofSpatial, ofPrefix, signText}
+use Rattle.grammar.specs.Size.{leadSize, spatialSize, prefixSize, signSize}
+use Rattle.grammar.specs.SignLaws.{longest, Longest}
+use Rattle.grammar.proofs.Sign.{symbol-fixed, lead-fixed, spatial-fixed, sound}
 
 many-size : {A : Type 0} (w n : ℕ) (f : Format A) → Fixed w n f → (l : List A) → All (f .Valid) l → length (many f .write l) ≡ length l * n
 many-size w n f x [] ok = omega arith
@@ -46,12 +47,12 @@ module _ (set : Charset) where
   sign-size m ok =
       let k = sound set m ok in
       let p = optional (prefix t) .write (ofPrefix (m .prefix)) in
-      let h = head t .write (m .marker, (m .x, m .y)) in
+      let h = lead t .write (m .marker, (m .x, m .y)) in
       let s = many (spatial t) .write (map ofSpatial (m .symbols)) in
       let e : length (p ++ (h ++ s)) ≡ length p + length (h ++ s) = length-append p (h ++ s) in
       let f : length (h ++ s) ≡ length h + length s = length-append h s in
       let a : length p ≡ prefixSize set (length (m .prefix)) = prefix-size (m .prefix) (k .0) in
-      let b : length h ≡ headSize set = head-fixed t (lawful set) .size (m .marker, (m .x, m .y)) (k .1 .0) in
+      let b : length h ≡ leadSize set = lead-fixed t (lawful set) .size (m .marker, (m .x, m .y)) (k .1 .0) in
       let c : length s ≡ length (m .symbols) * spatialSize set =
       many-size (t .unit) (spatialSize set) (spatial t) (spatial-fixed t (lawful set)) (map ofSpatial (m .symbols)) (k .1 .1)
       ∙ ap (λ n. n * spatialSize set) (length-map (m .symbols) ofSpatial) in

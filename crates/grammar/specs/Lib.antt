@@ -1,2 +1,3 @@
 pub mod Sign
+pub mod Size
 pub mod SignLaws

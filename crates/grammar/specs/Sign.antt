@@ -4,6 +4,7 @@ use mathlib.Core.List.{List, [], _∷_, map}
 use mathlib.Core.Option.{Option, none, some}
 use Rattle.format.specs.Format.{Format, All, sequence, mapped, optional, many}
 use Rattle.format.specs.Numeral.{Range}
+use Rattle.format.specs.Places.{Outcome, reading}
 use Rattle.charset.specs.declared.Charset.{Charset}
 use Rattle.charset.specs.Tokens.{Tokens, tokens, lastWriting, lastLocation, lastCode}
 
@@ -54,14 +55,14 @@ module _ (t : Tokens) where
   prefix = sequence (t .marker 0 0) λ a. prefixSymbols
 
   -- one of B, L, M, R with the maximum coordinate, and zero or more writing symbols each with its coordinate
-  abbrev pub head : Format (ℕ × (ℕ × ℕ))
-  head = placed (t .marker 1 4)
+  abbrev pub lead : Format (ℕ × (ℕ × ℕ))
+  lead = placed (t .marker 1 4)
 
   abbrev pub spatial : Format (ℕ × (ℕ × ℕ))
   spatial = placed (t .symbol lastWriting)
 
   abbrev pub signbox : Format ((ℕ × (ℕ × ℕ)) × List (ℕ × (ℕ × ℕ)))
-  signbox = sequence head λ h. many spatial
+  signbox = sequence lead λ h. many spatial
 
   abbrev pub parts : Format (Option (ℕ × (ℕ × List ℕ)) × ((ℕ × (ℕ × ℕ)) × List (ℕ × (ℕ × ℕ))))
   parts = sequence (optional prefix) λ p. signbox
@@ -103,3 +104,7 @@ sign set = mapped (parts (tokens set)) toMeaning ofMeaning Valid
 -- the text of a sign
 abbrev pub signText : Charset → Meaning → List ℕ
 signText set m = sign set .write m
+
+-- reading a whole text as a sign
+abbrev pub readSign : Charset → List ℕ → Outcome Meaning
+readSign set text = reading (tokens set .unit) (sign set) text

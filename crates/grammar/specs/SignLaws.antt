@@ -1,18 +1,14 @@
 -- What is proved of the grammar of a sign, in both character sets.
-use Prim.Native.Nat.{ℕ, zero, suc, _+_, _*_, _≤_}
+use Prim.Native.Nat.{ℕ, _≤_}
 use mathlib.Core.Path.{_≡_}
 use mathlib.Core.List.{List}
 use mathlib.Core.Logic.{_↔_}
 use lib.ListN.{length}
-use Rattle.format.specs.Places.{Outcome, fine, reading, Means, ByBytes}
+use Rattle.format.specs.Places.{Outcome, fine, Means, ByBytes}
 use Rattle.charset.specs.declared.Charset.{Charset}
 use Rattle.charset.specs.declared.Charset.the-variants.{Fsw, Swu}
 use Rattle.charset.specs.Tokens.{tokens}
-use Rattle.grammar.specs.Sign.{Meaning, Valid, sign, signText}
-
--- reading a whole text as a sign
-abbrev pub readSign : Charset → List ℕ → Outcome Meaning
-readSign set text = reading (tokens set .unit) (sign set) text
+use Rattle.grammar.specs.Sign.{Meaning, Valid, sign, signText, readSign}
 
 pub record SignLaws (set : Charset) : Type 0 where
   -- reading what was written gives the sign back, and writing what was read gives the text back
@@ -22,20 +18,6 @@ pub record SignLaws (set : Charset) : Type 0 where
   pub one : (m k : Meaning) → Valid m → Valid k → signText set m ≡ signText set k → m ≡ k
   -- the law of places: each outcome is given exactly where it holds (see Means)
   pub places : (text : List ℕ) (o : Outcome Meaning) → (readSign set text ≡ o) ↔ Means (tokens set .unit) (sign set) text o
-
--- how many bytes a sign takes, by the counts of its prefix symbols and signbox symbols
-abbrev pub headSize : Charset → ℕ
-headSize set = tokens set .markerSize + (tokens set .numberSize + tokens set .secondSize)
-
-abbrev pub spatialSize : Charset → ℕ
-spatialSize set = tokens set .symbolSize + (tokens set .numberSize + tokens set .secondSize)
-
-abbrev pub prefixSize : Charset → ℕ → ℕ
-prefixSize set zero = 0
-prefixSize set (suc n) = tokens set .markerSize + suc n * tokens set .symbolSize
-
-abbrev pub signSize : Charset → ℕ → ℕ → ℕ
-signSize set p n = prefixSize set p + (headSize set + n * spatialSize set)
 
 abbrev pub longest : Charset → ℕ
 longest Fsw = 1033

@@ -9,7 +9,7 @@ use mir.Val.{boolByte}
 use native.Mathlib.Omega.{arith}
 use Rattle.reader.specs.declared.arrays.Head.{Head}
 use Rattle.matching.specs.declared.Verdict.{Verdict}
-use Rattle.layout.specs.Layouts.{headNumbers, signNumbers, verdictNumbers}
+use Rattle.layout.specs.Layouts.{leadNumbers, signNumbers, verdictNumbers}
 use Rattle.layout.specs.Inner.{signIn}
 use Rattle.layout.proofs.Copies.{filled-none, filled-more, filled-all}
 
@@ -19,7 +19,7 @@ in-order a b c d e = simp append-assoc
 -- a sign: its head, then array after array
 pub whole-sign : (h : Head) (prefix codes xs ys z a b c d e : List ℕ) → length z ≡ 229
     → length prefix ≡ 32 → length codes ≡ 64 → length xs ≡ 64 → length ys ≡ 64
-    → a ≡ paste z 0 (headNumbers (signIn h prefix codes xs ys)) 5
+    → a ≡ paste z 0 (leadNumbers (signIn h prefix codes xs ys)) 5
     → b ≡ paste a 5 prefix (length prefix)
     → c ≡ paste b 37 codes (length codes)
     → d ≡ paste c 101 xs (length xs)
@@ -27,7 +27,7 @@ pub whole-sign : (h : Head) (prefix codes xs ys z a b c d e : List ℕ) → leng
     → e ≡ signNumbers (signIn h prefix codes xs ys)
 unfolding signNumbers
 whole-sign h prefix codes xs ys z a b c d e w kp kc kx ky p q r t u =
-    let n = headNumbers (signIn h prefix codes xs ys) in
+    let n = leadNumbers (signIn h prefix codes xs ys) in
     let f = filled-more 229 0 5 z a [] n (filled-none 229 z w) p refl (omega arith) in
     let g = filled-more 229 5 37 a b n prefix f q (omega arith) (omega arith) in
     let i = filled-more 229 37 101 b c (n ++ prefix) codes g r (omega arith) (omega arith) in

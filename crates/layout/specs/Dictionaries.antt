@@ -4,7 +4,7 @@ use mathlib.Core.List.{List, [], _∷_}
 use lib.ListN.{length}
 use Rattle.token.specs.Result.{Result, refusal, done}
 use Rattle.lines.specs.Lines.{lineOf, lineStart}
-use Rattle.run.specs.declared.Narrowed.{Narrowed}
+use Rattle.narrowing.specs.declared.Narrowed.{Narrowed}
 use Rattle.dictionary.specs.declared.Opened.{Opened}
 use Rattle.fetching.specs.Fetching.{Entry, inFirst, inSecond}
 

@@ -37,11 +37,11 @@ writtenNumbers w = w .number ∷ w .place ∷ w .length ∷ []
 abbrev pub readingNumbers : Reading → List ℕ
 readingNumbers r = r .number ∷ r .place ∷ []
 
-abbrev pub headNumbers : Sign → List ℕ
-headNumbers s = s .marker ∷ s .«max_x» ∷ s .«max_y» ∷ s .«prefix_count» ∷ s .«symbol_count» ∷ []
+abbrev pub leadNumbers : Sign → List ℕ
+leadNumbers s = s .marker ∷ s .«max_x» ∷ s .«max_y» ∷ s .«prefix_count» ∷ s .«symbol_count» ∷ []
 
 unfoldable pub signNumbers : Sign → List ℕ
-signNumbers s = headNumbers s ++ (s .prefix ++ (s .codes ++ (s .xs ++ s .ys)))
+signNumbers s = leadNumbers s ++ (s .prefix ++ (s .codes ++ (s .xs ++ s .ys)))
 
 -- the lent sign after the call: as it was where the text is refused
 abbrev pub signLeft : List ℕ → Reading → List ℕ

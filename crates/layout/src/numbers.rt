@@ -4,7 +4,7 @@ ghost use Rattle.layout.specs.Layouts.{setOf, codeNumbers, writtenNumber
 ghost use Rattle.layout.specs.Dictionaries.{openedNumbers, narrowedNumbers};
 use charset::Charset;
 use dictionary::Opened;
-use run::Narrowed;
+use narrowing::Narrowed;
 use symbol::Code;
 use token::Written;
 

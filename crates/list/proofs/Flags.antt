@@ -10,7 +10,7 @@ use lib.Dec.{eqb}
 use lib.ListN.{length, getD, set, take, length-set}
 use lib.Seq.{getD-set-same, getD-set-other, getD-take, take-suc, length-take-le}
 use Rattle.format.specs.Format.{choose, All, keep}
-use Rattle.run.specs.Narrowing.{firstBad}
+use Rattle.narrowing.specs.Narrowing.{firstBad}
 use Rattle.list.specs.Flags.{listedFlag, flagOf, marked, judgedTo}
 
 -- a fact of all elements of a list at one place

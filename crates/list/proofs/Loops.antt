@@ -9,9 +9,9 @@ use borrow.Author.Tests.{eq-eqb, ne-eqb}
 use lib.ListN.{length, getD, take, drop, set, length-set, length-append, length-take, drop-of-length-le}
 use lib.Seq.{drop-cons, getD-take, take-suc, length-take-le}
 use Rattle.format.specs.Format.{choose, All, keep}
-use Rattle.run.specs.Narrowing.{entriesFrom, upTo, risingOver, rising, listed, firstBad, filled}
-use Rattle.run.proofs.Filled.{filled-none, filled-read, filled-zero, filled-more, upTo-more}
-use Rattle.run.proofs.Rising.{rising-on, rising-low, rising-high, rising-end, listed-is}
+use Rattle.narrowing.specs.Narrowing.{entriesFrom, upTo, risingOver, rising, listed, firstBad, filled}
+use Rattle.narrowing.proofs.Filled.{filled-none, filled-read, filled-zero, filled-more, upTo-more}
+use Rattle.narrowing.proofs.Rising.{rising-on, rising-low, rising-high, rising-end, listed-is}
 use Rattle.list.specs.Flags.{listedFlag, metFlag, noSignFlag, flagOf, isMet, isSign, marked}
 use Rattle.list.proofs.Flags.{within, keep-one, keep-none, marked-more, marked-length}
 

@@ -1,4 +1,4 @@
 // The list of entry numbers in lent memory.
 
-pub mod entries;
 pub mod marks;
+pub mod rising;

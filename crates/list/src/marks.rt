@@ -6,7 +6,7 @@ ghost use Prim.Native.Nat.{_≤_, _<_};
 ghost use lib.Dec.{eqb};
 ghost use lib.ListN.{length, take, drop};
 ghost use Rattle.format.specs.Format.{All, keep};
-ghost use Rattle.run.specs.Narrowing.{firstBad, filled};
+ghost use Rattle.narrowing.specs.Narrowing.{firstBad, filled};
 ghost use Rattle.list.specs.Flags.{marked, isMet, isSign};
 
 // What a flag says of its entry.

@@ -10,7 +10,7 @@ use native.Mathlib.Omega.{arith}
 use borrow.Author.Tests.{lt-ltb}
 use Rattle.format.specs.Format.{choose, All}
 use Rattle.grammar.specs.Sign.{Spatial, Meaning}
-use Rattle.reader.specs.Signs.{padded}
+use Rattle.token.specs.Padded.{padded}
 use Rattle.reader.proofs.Filling.{padded-length}
 use Rattle.writer.specs.Arrays.{upto}
 use Rattle.writer.proofs.Upto.{map-upto}

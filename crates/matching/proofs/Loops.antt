@@ -9,7 +9,7 @@ use native.Mathlib.Omega.{arith}
 use native.Mathlib.Nat.{eq-or-lt-of-le}
 use native.Mathlib.Numerals.{add-one}
 use borrow.Author.Tests.{eq-eqb, ne-eqb}
-use Rattle.reader.specs.Signs.{padded, zeros}
+use Rattle.token.specs.Padded.{padded, zeros}
 use Rattle.writer.specs.Arrays.{upto}
 use Rattle.reader.proofs.Filling.{padded-none, put-more}
 use Rattle.writer.proofs.Upto.{upto-length, map-upto}

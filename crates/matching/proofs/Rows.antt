@@ -9,7 +9,7 @@ use native.Mathlib.Numerals.{add-one}
 use borrow.Author.Tests.{eq-eqb, ne-eqb, lt-ltb, le-ltb, not-true, not-false}
 use Rattle.format.specs.Format.{choose}
 use Rattle.grammar.specs.Sign.{Spatial}
-use Rattle.reader.specs.Signs.{zeros}
+use Rattle.token.specs.Padded.{zeros}
 use Rattle.writer.specs.Arrays.{upto, at as valueAt}
 use Rattle.matching.specs.declared.Verdict.{Verdict}
 use Rattle.matching.specs.Meets.{firstFrom, unmet, judged, answered}

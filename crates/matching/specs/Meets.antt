@@ -9,7 +9,7 @@ use lib.Dec.{leb, eqb}
 use Rattle.format.specs.Format.{choose}
 use Rattle.charset.specs.Tokens.{partsOf}
 use Rattle.grammar.specs.Sign.{Spatial, Meaning}
-use Rattle.reader.specs.Signs.{padded, zeros}
+use Rattle.token.specs.Padded.{padded, zeros}
 use Rattle.querygrammar.specs.Query.{Item, keyItem, rangeItem, Prefix, free, present, begins, Sought, Query}
 use Rattle.matching.specs.declared.Verdict.{Verdict}
 

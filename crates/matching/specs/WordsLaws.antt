@@ -7,7 +7,7 @@ use mathlib.Core.Bool.{true}
 use mathlib.Core.Logic.{_⊎_, _↔_}
 use lib.ListN.{length, drop}
 use Rattle.grammar.specs.Sign.{Spatial, Meaning}
-use Rattle.reader.specs.Signs.{padded}
+use Rattle.token.specs.Padded.{padded}
 use Rattle.querygrammar.specs.Query.{Item, Sought, Query, itemsOf, ValidItem, ValidSought, ValidQuery}
 use Rattle.queryitem.specs.Numbers.{lowest, highest, remainder}
 use Rattle.queryitem.specs.Words.{wordCount, rowWords, wordsOf}

@@ -5,7 +5,7 @@ use mathlib.Core.List.{List}
 use lib.ListN.{length}
 use native.Mathlib.Omega.{arith}
 use Rattle.format.specs.Format.{Format}
-use Rattle.format.specs.Located.{Located, found, wrongAt, cut, locate, andThen, onFound}
+use Rattle.format.specs.Located.{Located, found, wrongAt, shortHere, locate, andThen, onFound}
 use Rattle.format.proofs.Delimited.{Fixed}
 use Rattle.format.proofs.At.{fixed-got, taken, sequence-at}
 use Rattle.charset.specs.declared.Charset.{Charset}
@@ -32,7 +32,7 @@ placed-result f s at = go (locate f s at)
     go : (l : Located (ℕ × (ℕ × ℕ))) → placedResult (length s) (toldPlaced l) ≡ onDone (λ p. p .0) (ofLocated (length s) l)
     go (found v next) = refl
     go (wrongAt p) = refl
-    go cut = refl
+    go shortHere = refl
 
 -- no token before a coordinate's second number is longer than a symbol of FSW
 pub record Sizes (t : Tokens) : Type 0 where
@@ -66,7 +66,7 @@ module _ (set : Charset) (s : List ℕ) (at v : ℕ) where
 
   pub number-short : tokenAt (t .number) s at ≡ token.Short → Short ≡ pointAfter set s at v
   unfolding tokenAt
-  number-short e = after-is cut (told-short (locate (t .number) s at) e)
+  number-short e = after-is shortHere (told-short (locate (t .number) s at) e)
 
   module _ (x size : ℕ) (e : tokenAt (t .number) s at ≡ token.Value x) (n : size ≡ t .numberSize) where
     second-is : (l : Located ℕ) → locate (t .second) s (at + size) ≡ l → withValue (onFound (λ y. (x, y)) l) ≡ pointAfter set s at v
@@ -81,7 +81,7 @@ module _ (set : Charset) (s : List ℕ) (at v : ℕ) where
 
     pub second-short : tokenAt (t .second) s (at + size) ≡ token.Short → Short ≡ pointAfter set s at v
     unfolding tokenAt
-    second-short q = second-is cut (told-short (locate (t .second) s (at + size)) q)
+    second-short q = second-is shortHere (told-short (locate (t .second) s (at + size)) q)
 
     pub both-found : (y : ℕ) → tokenAt (t .second) s (at + size) ≡ token.Value y → At v x y ≡ pointAfter set s at v
     unfolding tokenAt
@@ -96,7 +96,7 @@ module _ (set : Charset) (n : ℕ) (f : Format ℕ) (x : Fixed (tokens set .unit
   unfolding pointThen pointAfter
   then-go (found v i) k = ap (λ i. toldPlaced (onFound (λ p. (v, p)) (locate (point (tokens set)) s i))) (sym (k v i refl))
   then-go (wrongAt p) k = refl
-  then-go cut k = refl
+  then-go shortHere k = refl
 
   pub placed-then : (size : ℕ) (first : Token) → size ≡ n → first ≡ tokenAt f s at
       → pointThen set s (at + size) first ≡ placedAt (placed (tokens set) f) s at

@@ -9,7 +9,7 @@ use Rattle.format.specs.Format.{Format, sequence}
 use Rattle.charset.specs.Bytes.{digitByte, digits, markerOf, markerByte, after}
 use Rattle.charset.specs.Tokens.{Tokens, fsw, fswNumber, lastLocation, base, turn, key, keyOf}
 use Rattle.charset.proofs.Keys.{parts-of-key}
-use Rattle.grammar.specs.Sign.{point, placed, prefixSymbol, head}
+use Rattle.grammar.specs.Sign.{point, placed, prefixSymbol, lead}
 use Rattle.part.specs.declared.quick.Look.{Look}
 use Rattle.part.specs.declared.quick.Look.the-variants.{Found, Nothing}
 use Rattle.part.specs.Inner.{digitIn, baseIn, turnIn, Spelled, SureDigit, SureValue, Sure, SureAfter}
@@ -158,5 +158,5 @@ module _ (s : List ℕ) where
       point-sure fsw at value x y (p .is (omega (arith, a)))
       (spelled-after 3 120 fswNumber (at + 3) (at + 4) y (omega arith) (omega arith) e (q .is (omega (arith, b))))
 
-  pub fsw-head-sure : (at m : ℕ) (r : Look) → at < length s → m ≡ markerOf (getD s at 0) → 1 ≤ m → m ≤ 4 → SureAfter fsw s (at + 1) m r → Sure 8 (head fsw) s at r
-  fsw-head-sure at m r h e l u = placed-spelled fsw 1 (fsw .marker 1 4) at m r (marker-spelled at m h e l u)
+  pub fsw-lead-sure : (at m : ℕ) (r : Look) → at < length s → m ≡ markerOf (getD s at 0) → 1 ≤ m → m ≤ 4 → SureAfter fsw s (at + 1) m r → Sure 8 (lead fsw) s at r
+  fsw-lead-sure at m r h e l u = placed-spelled fsw 1 (fsw .marker 1 4) at m r (marker-spelled at m h e l u)

@@ -4,7 +4,7 @@ use mathlib.Core.Path.{_≡_}
 use mathlib.Core.List.{List}
 use lib.ListN.{length}
 use Rattle.format.specs.Format.{Format}
-use Rattle.format.specs.Located.{Located, found, wrongAt, cut, locate}
+use Rattle.format.specs.Located.{Located, found, wrongAt, shortHere, locate}
 use Rattle.token.specs.Refusal.{textWrong, textShort}
 use Rattle.token.specs.Result.{Result, refusal, done, valueAt}
 use Rattle.part.specs.declared.reading.Placed.{Placed}
@@ -20,7 +20,7 @@ placedResult size Short = refusal textShort size
 abbrev pub toldPlaced : Located (ℕ × (ℕ × ℕ)) → Placed
 toldPlaced (found p next) = At (p .0) (p .1 .0) (p .1 .1)
 toldPlaced (wrongAt p) = Wrong p
-toldPlaced cut = Short
+toldPlaced shortHere = Short
 
 unfoldable pub placedAt : Format (ℕ × (ℕ × ℕ)) → List ℕ → ℕ → Placed
 placedAt f s at = toldPlaced (locate f s at)

@@ -1,4 +1,4 @@
-// The parts of a sign: signbox heads, spatial symbols and prefix symbols. Only `reading` is for other crates: its promises
+// The parts of a sign: signbox leads, spatial symbols and prefix symbols. Only `reading` is for other crates: its promises
 // are equations, whatever the quick look inside it finds.
 
 mod quick;

@@ -5,7 +5,7 @@ ghost use mathlib.Core.Path.{_≡_};
 ghost use Prim.Native.Nat.{_+_, _^_, _≤_};
 ghost use lib.ListN.{length};
 ghost use Rattle.charset.specs.Tokens.{lastPunctuation, fsw, fswNumber};
-ghost use Rattle.grammar.specs.Sign.{head, spatial, prefixSymbol};
+ghost use Rattle.grammar.specs.Sign.{lead, spatial, prefixSymbol};
 ghost use Rattle.part.specs.Inner.{digitOr, baseIn, turnIn, SureDigit, SureValue, Sure, SureAfter};
 use super::quick::Look;
 use super::quick::wide;
@@ -128,9 +128,9 @@ fn point_after(s: &[u8], at: usize, value: u16) -> Look
 }
 
 // The marker and the maximum of a signbox.
-pub fn head_at(s: &[u8], at: usize) -> Look
+pub fn lead_at(s: &[u8], at: usize) -> Look
     requires { ⌜ at + 64 ≤ 2 ^ 64 ⌝ }
-    ensures { λ r. ⌜ Sure 8 (head fsw) (now (s .entry)) at r ⌝ }
+    ensures { λ r. ⌜ Sure 8 (lead fsw) (now (s .entry)) at r ⌝ }
 {
     if s.len() < at + 8 {
         return Look::Nothing;

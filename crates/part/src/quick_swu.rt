@@ -4,7 +4,7 @@ ghost use Prim.Native.Nat.{_+_, _^_, _≤_};
 ghost use lib.ListN.{length};
 ghost use Rattle.charset.specs.Bytes.{character};
 ghost use Rattle.charset.specs.Tokens.{swu};
-ghost use Rattle.grammar.specs.Sign.{head, spatial, prefixSymbol};
+ghost use Rattle.grammar.specs.Sign.{lead, spatial, prefixSymbol};
 ghost use Rattle.part.specs.Inner.{Word, SureValue, Sure, SureAfter};
 use super::quick::Look;
 use super::quick::wide;
@@ -95,9 +95,9 @@ pub fn prefix_symbol(s: &[u8], at: usize) -> u16
 }
 
 // The marker and the maximum of a signbox.
-pub fn head_at(s: &[u8], at: usize) -> Look
+pub fn lead_at(s: &[u8], at: usize) -> Look
     requires { ⌜ at + 64 ≤ 2 ^ 64 ⌝ }
-    ensures { λ r. ⌜ Sure 12 (head swu) (now (s .entry)) at r ⌝ }
+    ensures { λ r. ⌜ Sure 12 (lead swu) (now (s .entry)) at r ⌝ }
 {
     if s.len() < at + 12 {
         return Look::Nothing;

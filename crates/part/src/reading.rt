@@ -3,8 +3,8 @@
 ghost use mathlib.Core.Path.{_≡_};
 ghost use Prim.Native.Nat.{_+_, _^_, _≤_};
 ghost use Rattle.charset.specs.Tokens.{tokens};
-ghost use Rattle.grammar.specs.Sign.{head, spatial, prefixSymbol};
-ghost use Rattle.grammar.specs.SignLaws.{headSize, spatialSize};
+ghost use Rattle.grammar.specs.Sign.{lead, spatial, prefixSymbol};
+ghost use Rattle.grammar.specs.Size.{leadSize, spatialSize};
 ghost use Rattle.token.specs.Token.{tokenAt};
 ghost use Rattle.part.specs.Placed.{placedAt};
 ghost use Rattle.part.specs.Inner.{pointAfter, pointThen, Sure, SureValue};
@@ -21,9 +21,9 @@ pub enum Placed {
     Short,
 }
 
-// The bytes of a signbox head and of a spatial symbol.
-pub fn head_size(set: Charset) -> usize
-    ensures { λ r. ⌜ r ≡ headSize set ⌝ }
+// The bytes of a signbox lead and of a spatial symbol.
+pub fn lead_size(set: Charset) -> usize
+    ensures { λ r. ⌜ r ≡ leadSize set ⌝ }
 {
     match set {
         Charset::Fsw => 8,
@@ -72,9 +72,9 @@ fn point_then(set: Charset, s: &[u8], at: usize, first: Token) -> Placed
 }
 
 // The marker and the maximum of a signbox, read with care.
-fn head_careful(set: Charset, s: &[u8], at: usize) -> Placed
+fn lead_careful(set: Charset, s: &[u8], at: usize) -> Placed
     requires { ⌜ at + 256 ≤ 2 ^ 64 ⌝ }
-    ensures { λ r. ⌜ r ≡ placedAt (head (tokens set)) (now (s .entry)) at ⌝ }
+    ensures { λ r. ⌜ r ≡ placedAt (lead (tokens set)) (now (s .entry)) at ⌝ }
 {
     let size = token::reading::marker_size(set);
     point_then(
@@ -100,13 +100,13 @@ fn spatial_careful(set: Charset, s: &[u8], at: usize) -> Placed
 }
 
 // What a quick look finds.
-fn quick_head(set: Charset, s: &[u8], at: usize) -> Look
+fn quick_lead(set: Charset, s: &[u8], at: usize) -> Look
     requires { ⌜ at + 256 ≤ 2 ^ 64 ⌝ }
-    ensures { λ r. ⌜ Sure (headSize set) (head (tokens set)) (now (s .entry)) at r ⌝ }
+    ensures { λ r. ⌜ Sure (leadSize set) (lead (tokens set)) (now (s .entry)) at r ⌝ }
 {
     match set {
-        Charset::Fsw => super::quick_fsw::head_at(s, at),
-        Charset::Swu => super::quick_swu::head_at(s, at),
+        Charset::Fsw => super::quick_fsw::lead_at(s, at),
+        Charset::Swu => super::quick_swu::lead_at(s, at),
     }
 }
 
@@ -121,13 +121,13 @@ fn quick_prefix_symbol(set: Charset, s: &[u8], at: usize) -> u16
 }
 
 // The marker and the maximum of a signbox.
-pub fn head_at(set: Charset, s: &[u8], at: usize) -> Placed
+pub fn lead_at(set: Charset, s: &[u8], at: usize) -> Placed
     requires { ⌜ at + 256 ≤ 2 ^ 64 ⌝ }
-    ensures { λ r. ⌜ r ≡ placedAt (head (tokens set)) (now (s .entry)) at ⌝ }
+    ensures { λ r. ⌜ r ≡ placedAt (lead (tokens set)) (now (s .entry)) at ⌝ }
 {
-    let quick = quick_head(set, s, at);
+    let quick = quick_lead(set, s, at);
     let Look::Found(m, x, y) = quick else {
-        return head_careful(set, s, at);
+        return lead_careful(set, s, at);
     };
     Placed::At(m, x, y)
 }

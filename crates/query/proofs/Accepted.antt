@@ -6,7 +6,7 @@ use mathlib.Core.Logic.{_⊎_, inl, inr}
 use mathlib.Core.Option.{Option, none, some}
 use lib.ListN.{length}
 use Rattle.format.specs.Format.{All, Any}
-use Rattle.format.specs.Places.{Outcome, fine, refused, unfinished}
+use Rattle.format.specs.Places.{Outcome, fine, refused, endsShort}
 use Rattle.token.specs.Refusal.{textWrong, textShort}
 use Rattle.token.specs.Result.{done, ofOutcome}
 use Rattle.token.proofs.Checks.{refusal-done, andThen-done}
@@ -50,7 +50,7 @@ query-valid t ok = record { prefix = prefix-valid (t .0) (ok .0); items = all-va
 outcome-fine : {A : Type 0} (size : ℕ) (o : Outcome A) (a : A) → ofOutcome size o ≡ done a → o ≡ fine a
 outcome-fine size (fine b) a e = let z : b ≡ a = cc in ap fine z
 outcome-fine size (refused p) a e = refusal-done textWrong p e
-outcome-fine size unfinished a e = refusal-done textShort size e
+outcome-fine size endsShort a e = refusal-done textShort size e
 
 pub query-accepted : (text : List ℕ) (q : Query) → queryOf text ≡ done q → Accepted q
 unfolding queryOf

@@ -9,7 +9,7 @@ use native.Mathlib.Omega.{arith}
 use Rattle.token.specs.Refusal.{prefixLong, signboxLong, rangeReversed}
 use Rattle.token.specs.Result.{Result, refusal, done, ofOutcome}
 use Rattle.token.proofs.Checks.{Counted, done-counted, refusal-counted, check-counted, andThen-counted, outcome-counted}
-use Rattle.reader.specs.Signs.{padded, zeros}
+use Rattle.token.specs.Padded.{padded, zeros}
 use Rattle.querygrammar.specs.Query.{Query, meaning, itemsOf}
 use Rattle.querygrammar.specs.QueryLaws.{readQuery}
 use Rattle.queryitem.specs.Words.{wordCount, wordsOf}

@@ -10,7 +10,7 @@ use lib.ListN.{length, take, drop, length-drop}
 use native.Mathlib.Omega.{arith}
 use borrow.Author.Tests.{ltb-true}
 use Rattle.format.specs.Format.{Answer, value, other, wrong, short, choose, orElse}
-use Rattle.format.specs.Located.{wrongAt, cut, locate, andThen, onFound}
+use Rattle.format.specs.Located.{wrongAt, shortHere, locate, andThen, onFound}
 use Rattle.format.proofs.At.{delimited-got, cut-reads}
 use Rattle.format.proofs.Ends.{optional-there, optional-none}
 use Rattle.charset.specs.Bytes.{byteOf, byte, after}
@@ -37,7 +37,7 @@ module _ (s : List ℕ) (t : Token) (e : t ≡ tokenAt (byte 81) s 0) where
   pub q-wrong : (p : ℕ) → t ≡ Wrong p → locate query s 0 ≡ wrongAt p
   q-wrong p w = q-at ∙ ap (λ l. andThen l λ a i. locate afterQ s i) (wrong-token (byte 81) s 0 p t e w)
 
-  pub q-short : t ≡ Short → locate query s 0 ≡ cut
+  pub q-short : t ≡ Short → locate query s 0 ≡ shortHere
   q-short w = q-at ∙ ap (λ l. andThen l λ a i. locate afterQ s i) (short-token (byte 81) s 0 t e w)
 
 -- WHAT FOLLOWS IT
@@ -52,7 +52,7 @@ unit-go v rest true p q e = refl
 unit-go v rest false p q e = absurd (within-go v rest p q e)
 
 -- a byte is cut only by the end of the text
-byte-short : (b : ℕ) (s : List ℕ) (at : ℕ) → locate (byte b) s at ≡ cut → length s ≤ at
+byte-short : (b : ℕ) (s : List ℕ) (at : ℕ) → locate (byte b) s at ≡ shortHere → length s ≤ at
 byte-short b s at e =
     let v = byteOf (λ a. a) (take 1 (drop at s)) in
     let t : ltb (length (drop at s)) 1 ≡ true = unit-go v (drop 1 (drop at s)) (ltb (length (drop at s)) 1) (ltb v b) (ltb b v) (cut-reads (byte b) s at e) in

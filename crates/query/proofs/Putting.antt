@@ -12,7 +12,7 @@ use borrow.Author.Tests.{eq-eqb, ne-eqb, le-leb, lt-leb, leb-true}
 use Rattle.token.specs.Refusal.{prefixLong, signboxLong, rangeReversed}
 use Rattle.token.specs.Result.{Result, refusal, done, check}
 use Rattle.token.proofs.Checks.{refusal-done, check-failed, check-done}
-use Rattle.reader.specs.Signs.{padded, zeros}
+use Rattle.token.specs.Padded.{padded, zeros}
 use Rattle.reader.proofs.Filling.{padded-none, padded-put}
 use Rattle.querygrammar.specs.Query.{Query, itemsOf, kindOf}
 use Rattle.queryitem.specs.Numbers.{bareItem}

@@ -12,7 +12,7 @@ use lib.Seq.{drop-at, drop-drop, getD-drop}
 use native.Mathlib.Omega.{arith}
 use borrow.Author.Tests.{ltb-true}
 use Rattle.format.specs.Format.{Format, All, choose, optional, writeAll}
-use Rattle.format.specs.Places.{Outcome, fine, refused, unfinished}
+use Rattle.format.specs.Places.{Outcome, fine, refused, endsShort}
 use Rattle.token.specs.Refusal.{prefixLong, signboxLong, rangeReversed}
 use Rattle.token.specs.Result.{Result, refusal, done, check, andThen, ofOutcome}
 use Rattle.token.proofs.Checks.{refusal-done, Counted}
@@ -163,7 +163,7 @@ module _ (text : List ℕ) (p : ℕ) where
       let b = check-five (leb (length (q .items)) 32) signboxLong _ p (λ k. omega arith) a in
       (t, (r, first-reversed text t r p (order-five (firstReversed (spotsOf t)) q p b)))
   five-go (refused at) r z = absurd (let k : _≡_ {A = ℕ} 1 5 = cc in omega arith)
-  five-go unfinished r z = absurd (let k : _≡_ {A = ℕ} 2 5 = cc in omega arith)
+  five-go endsShort r z = absurd (let k : _≡_ {A = ℕ} 2 5 = cc in omega arith)
 
   reversed-at : queryOf text ≡ refusal rangeReversed p → Reversed
   unfolding queryOf

@@ -8,20 +8,20 @@ use lib.ListN.{length}
 use lib.Seq.{sets}
 use native.Mathlib.Omega.{arith}
 use Rattle.format.specs.Format.{many}
-use Rattle.format.specs.Places.{Outcome, fine, refused, unfinished}
-use Rattle.format.specs.Located.{Located, found, wrongAt, cut, locate, andThen, onFound, ended}
+use Rattle.format.specs.Places.{Outcome, fine, refused, endsShort}
+use Rattle.format.specs.Located.{Located, found, wrongAt, shortHere, locate, andThen, onFound, ended}
 use Rattle.format.proofs.Lawful.{Lawful}
 use Rattle.format.proofs.At.{got, sequence-at-got}
 use Rattle.format.proofs.Ends.{onFine, ended-on}
 use Rattle.token.specs.declared.reading.Token.{Token}
 use Rattle.token.specs.declared.reading.Token.the-variants.{Value, Wrong, Short}
 use Rattle.token.specs.Refusal.{textWrong, textShort}
-use Rattle.token.specs.Result.{Result, refusal, done, ofOutcome}
+use Rattle.token.specs.Result.{Result, refusal, done, ofOutcome, ofLocated}
 use Rattle.token.proofs.Checks.{refusal-done}
 use Rattle.querygrammar.specs.Query.{SoughtText, signboxItem, itemOf, soughtOf, Figures, variance, varianceOf, TailText, tail}
 use Rattle.querygrammar.proofs.Query.{signbox-items-lawful, items-lawful}
 use Rattle.queryitem.specs.Words.{rowsWords}
-use Rattle.queryitem.specs.Pieces.{sort, ofLocated}
+use Rattle.queryitem.specs.Pieces.{sort}
 use Rattle.querypart.specs.declared.items.Count.{Count}
 use Rattle.querypart.specs.Ranges.{spotsFrom, firstReversed}
 use Rattle.querypart.specs.Inner.{toldEnd, varianceEnd, orZero, orEarlier, countOf, ItemsIn}
@@ -60,7 +60,7 @@ module _ (boxed : Bool) (s : List ℕ) (at from : ℕ) (r : Count) (o p : List �
       let q : all ≡ found l (r .place) = e ∙ ap (found l) (sym (ap (λ k. k .place) c)) in
       record { items = l; is = q; count = ap (λ k. k .count) c; first = ap (λ k. k .reversed) c; held = v .holds l (r .place) q }
   read-go (wrongAt p) e c z = absurd (let a : r .number ≡ textWrong = ap (λ k. k .number) c in omega arith)
-  read-go cut e c z = absurd (let a : r .number ≡ textShort = ap (λ k. k .number) c in omega arith)
+  read-go shortHere e c z = absurd (let a : r .number ≡ textShort = ap (λ k. k .number) c in omega arith)
 
   pub items-read : r .number ≡ 0 → Read
   items-read z = read-go all refl (v .is) z
@@ -73,17 +73,17 @@ module _ (boxed : Bool) (s : List ℕ) (at from : ℕ) (r : Count) (o p : List �
 end-value : {A : Type 0} (to : A → ℕ) (o : Outcome A) (v : ℕ) → toldEnd to o ≡ Value v → (a : A) × (o ≡ fine a) × (to a ≡ v)
 end-value to (fine a) v e = (a, refl, cc)
 end-value to (refused p) v e = absurd (let z : _≡_ {A = ℕ} 0 1 = cc in omega arith)
-end-value to unfinished v e = absurd (let z : _≡_ {A = ℕ} 0 1 = cc in omega arith)
+end-value to endsShort v e = absurd (let z : _≡_ {A = ℕ} 0 1 = cc in omega arith)
 
 end-wrong : {A : Type 0} (to : A → ℕ) (o : Outcome A) (p : ℕ) → toldEnd to o ≡ Wrong p → o ≡ refused p
 end-wrong to (fine a) p e = absurd (let z : _≡_ {A = ℕ} 0 1 = cc in omega arith)
 end-wrong to (refused q) p e = let z : q ≡ p = cc in ap refused z
-end-wrong to unfinished p e = absurd (let z : _≡_ {A = ℕ} 0 1 = cc in omega arith)
+end-wrong to endsShort p e = absurd (let z : _≡_ {A = ℕ} 0 1 = cc in omega arith)
 
-end-short : {A : Type 0} (to : A → ℕ) (o : Outcome A) → toldEnd to o ≡ Short → o ≡ unfinished
+end-short : {A : Type 0} (to : A → ℕ) (o : Outcome A) → toldEnd to o ≡ Short → o ≡ endsShort
 end-short to (fine a) e = absurd (let z : _≡_ {A = ℕ} 0 1 = cc in omega arith)
 end-short to (refused q) e = absurd (let z : _≡_ {A = ℕ} 0 1 = cc in omega arith)
-end-short to unfinished e = refl
+end-short to endsShort e = refl
 
 module _ (s : List ℕ) (at kind before earlier : ℕ) (inside : at ≤ length s) where
   abbrev goes : List SoughtText → ℕ → Located TailText
@@ -112,7 +112,7 @@ module _ (s : List ℕ) (at kind before earlier : ℕ) (inside : at ≤ length s
         go : (l : Located (List SoughtText)) → ofLocated (length s) l ≡ refusal (r .number) (r .place) → ofOutcome (length s) (ended 1 (length s) (andThen l goes)) ≡ refusal (r .number) (r .place)
         go (found l i) e = refusal-done (r .number) (r .place) (sym e)
         go (wrongAt p) e = same-refusal e
-        go cut e = same-refusal e
+        go shortHere e = same-refusal e
 
     module _ (z : r .number ≡ 0) (t : Token) (e : t ≡ varianceEnd s (r .place)) where
       abbrev k : Read true s at (afterRows before) r o p v

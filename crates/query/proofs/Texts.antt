@@ -11,8 +11,8 @@ use lib.Seq.{sets}
 use native.Mathlib.Omega.{arith}
 use borrow.Author.Tests.{lt-ltb, le-ltb}
 use Rattle.format.specs.Format.{choose, optional, many}
-use Rattle.format.specs.Places.{Outcome, fine, refused, unfinished}
-use Rattle.format.specs.Located.{Located, found, wrongAt, cut, locate, andThen, onFound, ended}
+use Rattle.format.specs.Places.{Outcome, fine, refused, endsShort}
+use Rattle.format.specs.Located.{Located, found, wrongAt, shortHere, locate, andThen, onFound, ended}
 use Rattle.format.proofs.At.{got, delimited-got, sequence-at-got}
 use Rattle.format.proofs.Ends.{onFine, ended-on, reading-at, oneOrMore, one-or-more}
 use Rattle.charset.specs.Bytes.{byte}
@@ -21,15 +21,14 @@ use Rattle.token.specs.declared.reading.Token.{Token}
 use Rattle.token.specs.declared.reading.Token.the-variants.{Value, Wrong, Short}
 use Rattle.token.specs.Token.{tokenAt}
 use Rattle.token.specs.Refusal.{textWrong, textShort}
-use Rattle.token.specs.Result.{Result, refusal, done, ofOutcome}
+use Rattle.token.specs.Result.{Result, refusal, done, ofOutcome, ofLocated}
 use Rattle.token.proofs.Checks.{refusal-done}
-use Rattle.reader.specs.Signs.{padded, zeros}
+use Rattle.token.specs.Padded.{padded, zeros}
 use Rattle.querygrammar.specs.Query.{ItemText, HeadText, TailText, QueryText, item, signboxItem, someItems, head, tail, query, itemOf, soughtOf, meaning, itemsOf}
 use Rattle.querygrammar.specs.QueryLaws.{readQuery}
 use Rattle.querygrammar.proofs.Query.{item-delimited, some-lawful, optional-head-lawful, query-lawful}
 use Rattle.queryitem.specs.Numbers.{bareItem}
 use Rattle.queryitem.specs.Words.{wordCount, rowsWords, wordsOf}
-use Rattle.queryitem.specs.Pieces.{ofLocated}
 use Rattle.queryitem.proofs.Chains.{byte-there, wrong-token, short-token}
 use Rattle.querypart.specs.declared.items.Count.{Count}
 use Rattle.querypart.specs.Ranges.{reversed, Spot, spotsFrom, firstReversed}
@@ -103,7 +102,7 @@ module _ (s : List ℕ) where
   pub text-wrong : (p : ℕ) (h : Head) (w : List ℕ) → locate query s 0 ≡ wrongAt p → h ≡ record { number = textWrong; place = p } → ReadInto s h w
   text-wrong p h w e = text-refused textWrong p h w (ap (ofOutcome (length s)) (query-read ∙ ap (ended 1 (length s)) e))
 
-  pub text-cut : (h : Head) (w : List ℕ) → locate query s 0 ≡ cut → h ≡ record { number = textShort; place = length s } → ReadInto s h w
+  pub text-cut : (h : Head) (w : List ℕ) → locate query s 0 ≡ shortHere → h ≡ record { number = textShort; place = length s } → ReadInto s h w
   text-cut h w e = text-refused textShort (length s) h w (ap (ofOutcome (length s)) (query-read ∙ ap (ended 1 (length s)) e))
 
   text-fine : (t : QueryText) (h : Head) (w : List ℕ) → readQuery s ≡ fine t → h ≡ headOf (limited (meaning t) (firstReversed (spotsOf t)))
@@ -146,7 +145,7 @@ module _ (s : List ℕ) where
           ∙ (λ j. sets (sets o (afterRows before) (rowsWords (q .items))) 0 (k .kinds j ∷ before ∷ n j ∷ q .variance ∷ []))
           ∙ query-put q before o c (omega arith) (k .held (omega arith)))
       tail-go (refused q) x = text-refused textWrong q r p (ap (ofOutcome (length s)) (whole ∙ ap (onFine (λ t. (h, t))) x)) (v .is ∙ rw x refl)
-      tail-go unfinished x = text-refused textShort (length s) r p (ap (ofOutcome (length s)) (whole ∙ ap (onFine (λ t. (h, t))) x)) (v .is ∙ rw x refl)
+      tail-go endsShort x = text-refused textShort (length s) r p (ap (ofOutcome (length s)) (whole ∙ ap (onFine (λ t. (h, t))) x)) (v .is ∙ rw x refl)
 
       text-tail : ReadInto s r p
       text-tail = tail-go (ended 1 (length s) (locate tail s i)) refl
@@ -215,8 +214,8 @@ module _ (s : List ℕ) (P : Prefixed s) (o p : List ℕ) (r : Count) (v : Items
   wrong-in : (c : Count) (q : ℕ) → locate query s 0 ≡ wrongAt q → c ≡ record { number = textWrong; place = q; count = 0; reversed = 0 } → PrefixIn s 2 c p
   wrong-in c q e = not-in c textWrong q (lit< tt) (located-not (wrongAt q) e)
 
-  cut-in : (c : Count) → locate query s 0 ≡ cut → c ≡ record { number = textShort; place = length s; count = 0; reversed = 0 } → PrefixIn s 2 c p
-  cut-in c e = not-in c textShort (length s) (lit< tt) (located-not cut e)
+  cut-in : (c : Count) → locate query s 0 ≡ shortHere → c ≡ record { number = textShort; place = length s; count = 0; reversed = 0 } → PrefixIn s 2 c p
+  cut-in c e = not-in c textShort (length s) (lit< tt) (located-not shortHere e)
 
   pub prefix-refused : (r .number ≡ 0 → ⊥) → PrefixIn s 2 r p
   prefix-refused z = record {
@@ -229,7 +228,7 @@ module _ (s : List ℕ) (P : Prefixed s) (o p : List ℕ) (r : Count) (v : Items
       go : (l : Located (List ItemText)) → all ≡ l → ofLocated (length s) l ≡ refusal (r .number) (r .place) → ofOutcome (length s) (readQuery s) ≡ refusal (r .number) (r .place)
       go (found l i) e q = refusal-done (r .number) (r .place) (sym q)
       go (wrongAt n) e q = located-not (wrongAt n) (ends (wrongAt n) e) ∙ same-refusal q
-      go cut e q = located-not cut (ends cut e) ∙ same-refusal q
+      go shortHere e q = located-not shortHere (ends shortHere e) ∙ same-refusal q
 
   module _ (z : r .number ≡ 0) where
     abbrev k : Read false s 2 4 r o p v

@@ -12,7 +12,7 @@ use Rattle.format.specs.Places.{fine}
 use Rattle.format.specs.Located.{found, locate, onFound, ended}
 use Rattle.token.specs.Refusal.{prefixLong, signboxLong, rangeReversed}
 use Rattle.token.specs.Result.{Result, refusal, done, check, andThen, ofOutcome}
-use Rattle.reader.specs.Signs.{padded, zeros}
+use Rattle.token.specs.Padded.{padded, zeros}
 use Rattle.querygrammar.specs.Query.{Query, HeadText, TailText, kindOf, item, signboxItem, prefixItems as prefixFormat, head, tail, afterQ, query, itemOf, soughtOf, prefixOf, itemsOf, varianceOf}
 use Rattle.querygrammar.specs.QueryLaws.{readQuery}
 use Rattle.queryitem.specs.Numbers.{bareItem}

@@ -9,7 +9,7 @@ use lib.ListN.{length}
 use Rattle.format.specs.Format.{optional}
 use Rattle.token.specs.Refusal.{prefixLong, signboxLong, rangeReversed}
 use Rattle.token.specs.Result.{Result, refusal, done, check, andThen, ofOutcome}
-use Rattle.reader.specs.Signs.{padded, zeros}
+use Rattle.token.specs.Padded.{padded, zeros}
 use Rattle.querygrammar.specs.Query.{Query, ItemText, HeadText, QueryText, item, signboxItem, head, itemOf, meaning, itemsOf}
 use Rattle.querygrammar.specs.QueryLaws.{readQuery}
 use Rattle.queryitem.specs.Words.{wordCount, wordsOf}

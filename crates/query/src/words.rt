@@ -2,7 +2,7 @@
 ghost use mathlib.Core.Path.{_≡_};
 ghost use Prim.Native.Nat.{_+_, _≤_};
 ghost use lib.ListN.{length};
-ghost use Rattle.reader.specs.Signs.{zeros};
+ghost use Rattle.token.specs.Padded.{zeros};
 ghost use Rattle.queryitem.specs.Words.{wordCount};
 ghost use Rattle.query.specs.Inner.{afterRows, LimitedInto, TailIn, Asks, OpensWith, Prefixed, PrefixIn, ReadInto};
 use queryitem::words::BEGINS;

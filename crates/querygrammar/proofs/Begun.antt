@@ -8,7 +8,7 @@ use lib.ListN.{length, drop, drop-of-length-le}
 use lib.Seq.{drop-cons}
 use native.Mathlib.Omega.{arith}
 use Rattle.format.specs.Format.{Answer, value, other, wrong, short, Format, first, second, sequence, optional, either, orElse, maybe}
-use Rattle.format.specs.Located.{Located, found, wrongAt, cut, located, locate, andThen, onFound}
+use Rattle.format.specs.Located.{Located, found, wrongAt, shortHere, located, locate, andThen, onFound}
 use Rattle.format.proofs.Delimited.{Delimited, unit-alone}
 use Rattle.format.proofs.At.{Wronged, here, later, wronged, sequence-at, mapped-at}
 use Rattle.charset.specs.Bytes.{byteOf, byte, digitOf, digitByte, digit, after}
@@ -53,9 +53,9 @@ module _ {A : Type 0} (b : ℕ) (f : Format A) (s : List ℕ) (at : ℕ) where
       go : (l : Located A) → onFound (λ p. p .1) (onFound {B = ℕ × A} (λ v. (a, v)) l) ≡ l
       go (found v j) = refl
       go (wrongAt p) = refl
-      go cut = refl
+      go shortHere = refl
   follows (wrongAt p) = refl
-  follows cut = refl
+  follows shortHere = refl
 
   pub after-at : locate (after b f) s at ≡ andThen (locate (byte b) s at) λ a i. locate f s i
   after-at =

@@ -6,8 +6,9 @@ use mathlib.Core.Bool.{Bool}
 use mathlib.Core.Logic.{inl, inr}
 use lib.ListN.{length}
 use native.Mathlib.Omega.{arith}
+use Rattle.token.specs.Result.{ofLocated}
 use Rattle.format.specs.Format.{Format}
-use Rattle.format.specs.Located.{Located, found, wrongAt, cut, locate, andThen, onFound}
+use Rattle.format.specs.Located.{Located, found, wrongAt, shortHere, locate, andThen, onFound}
 use Rattle.charset.specs.Bytes.{byte}
 use Rattle.charset.proofs.Units.{byte-delimited}
 use Rattle.token.specs.declared.reading.Token.{Token}
@@ -19,13 +20,13 @@ use Rattle.querygrammar.specs.Query.{queryBase}
 use Rattle.queryitem.specs.declared.reading.Numbers.{Numbers}
 use Rattle.queryitem.specs.declared.reading.Piece.{Piece}
 use Rattle.queryitem.specs.declared.reading.Piece.the-variants.{Found, Wrong, Short}
-use Rattle.queryitem.specs.Pieces.{failedAs, toldPiece, pieceAt, sort, resultOf, ofLocated, soughtAt}
+use Rattle.queryitem.specs.Pieces.{failedAs, toldPiece, pieceAt, sort, resultOf, soughtAt}
 use Rattle.queryitem.specs.Numbers.{numbersOf}
 
 -- where l fails, q fails alike
 pub record Carries {A B : Type 0} (l : Located A) (q : Located B) : Type 0 where
   pub wrongs : (p : ℕ) → l ≡ wrongAt p → q ≡ wrongAt p
-  pub cuts : l ≡ cut → q ≡ cut
+  pub cuts : l ≡ shortHere → q ≡ shortHere
 
 pub carries : {A B : Type 0} (l : Located A) (k : A → ℕ → Located B) (q : Located B) → q ≡ andThen l k → Carries l q
 carries l k q e = record { wrongs = λ p z. e ∙ ap (λ l. andThen l k) z; cuts = λ z. e ∙ ap (λ l. andThen l k) z }
@@ -42,7 +43,7 @@ failed-go : {A B : Type 0} (l : Located A) (to : A → ℕ) (q : Located B) (num
 unfolding failedAs
 failed-go l to q numbers (found a i) e k h = value-fails (to a) h
 failed-go l to q numbers (wrongAt p) e k h = sym (ap (λ q. toldPiece (onFound numbers q)) (k .wrongs p e))
-failed-go l to q numbers cut e k h = sym (ap (λ q. toldPiece (onFound numbers q)) (k .cuts e))
+failed-go l to q numbers shortHere e k h = sym (ap (λ q. toldPiece (onFound numbers q)) (k .cuts e))
 
 -- the answer where a part fails
 pub failed-piece : {A B : Type 0} (f : Format B) (numbers : B → Numbers) (s : List ℕ) (at : ℕ) (l : Located A) (to : A → ℕ) (t : Token) (r : Piece) → Carries l (locate f s at)
@@ -54,7 +55,7 @@ failed-piece f numbers s at l to t r k e h q =
 same-located : (l : Located ℕ) → l ≡ onFound (λ a. a) l
 same-located (found a i) = refl
 same-located (wrongAt p) = refl
-same-located cut = refl
+same-located shortHere = refl
 
 -- the same where the part is a token
 pub failed-token : {B : Type 0} (f : Format B) (numbers : B → Numbers) (s : List ℕ) (at : ℕ) (g : Format ℕ) (i : ℕ) (t : Token) (r : Piece) → Carries (locate g s i) (locate f s at)
@@ -78,13 +79,13 @@ piece-is f numbers g others s at i to r e same q = q ∙ go (locate g s i) ∙ a
     go : (l : Located _) → toldPiece (onFound others l) ≡ toldPiece (onFound numbers (onFound to l))
     go (found c j) = ap (λ n. Found n j) (sym (same c))
     go (wrongAt p) = refl
-    go cut = refl
+    go shortHere = refl
 
 -- what an answer comes to
 told-result : (size : ℕ) (l : Located Numbers) → resultOf size (toldPiece l) ≡ ofLocated size l
 told-result size (found n next) = refl
 told-result size (wrongAt p) = refl
-told-result size cut = refl
+told-result size shortHere = refl
 
 pub piece-sought : (boxed t : Bool) (s : List ℕ) (at : ℕ) (r : Piece) → boxed ≡ t → r ≡ pieceAt (sort t .format) (λ a. numbersOf (sort t .sought a)) s at
     → resultOf (length s) r ≡ soughtAt (sort boxed) s at
@@ -102,6 +103,6 @@ pub wrong-token : (f : Format ℕ) (s : List ℕ) (at p : ℕ) (t : Token) → t
 unfolding tokenAt
 wrong-token f s at p t e q = told-wrong (locate f s at) p (sym e ∙ q)
 
-pub short-token : (f : Format ℕ) (s : List ℕ) (at : ℕ) (t : Token) → t ≡ tokenAt f s at → t ≡ token.Short → locate f s at ≡ cut
+pub short-token : (f : Format ℕ) (s : List ℕ) (at : ℕ) (t : Token) → t ≡ tokenAt f s at → t ≡ token.Short → locate f s at ≡ shortHere
 unfolding tokenAt
 short-token f s at t e q = told-short (locate f s at) (sym e ∙ q)

@@ -9,7 +9,7 @@ use native.Mathlib.Omega.{arith}
 use types.Run.{OneOf}
 use denote.Enum.Declared.{tagOf}
 use Rattle.format.specs.Format.{other, Format, optional}
-use Rattle.format.specs.Located.{Located, found, wrongAt, cut, locate, andThen, onFound}
+use Rattle.format.specs.Located.{Located, found, wrongAt, shortHere, locate, andThen, onFound}
 use Rattle.format.proofs.At.{delimited-got, sequence-at, cut-reads}
 use Rattle.format.proofs.Ends.{optional-begun, optional-none, optional-bad, optional-cut}
 use Rattle.charset.specs.Tokens.{fsw}
@@ -71,7 +71,7 @@ module _ (n : Numbers) (s : List ℕ) (at : ℕ) where
   pub coordinate-short : at < length s → (t : Token) → t ≡ tokenAt number s at → t ≡ token.Short → Short ≡ pieceAt there (placed n) s at
   unfolding pieceAt
   coordinate-short h t e v =
-      let l : locate coordinate s at ≡ cut = coordinate-at ∙ ap begins (short-token number s at t e v) in
+      let l : locate coordinate s at ≡ shortHere = coordinate-at ∙ ap begins (short-token number s at t e v) in
       sym (ap (λ l. toldPiece (onFound (placed n) l)) (optional-cut coordinate s at h (cut-reads coordinate s at l)))
 
   module _ (x : ℕ) (t : Token) (e : t ≡ tokenAt number s at) (v : t ≡ token.Value x) where
@@ -116,7 +116,7 @@ module _ (s : List ℕ) (at : ℕ) where
   fails-go (found v i) (inl h) = absurd (omega (arith, h))
   fails-go (found v i) (inr h) = absurd (omega (arith, h))
   fails-go (wrongAt p) h = refl
-  fails-go cut h = refl
+  fails-go shortHere h = refl
 
   pub sought-fails : (r : Piece) → r ≡ pieceAt item itemNumbers s at → OneOf (1 ∷ 2 ∷ []) (tagOf the-type r) → r ≡ pieceAt signboxItem soughtNumbers s at
   unfolding pieceAt
@@ -127,7 +127,7 @@ module _ (s : List ℕ) (at : ℕ) where
       let x : itemNumbers v ≡ n = cc in let y : i ≡ next = cc in
       record { says = v; is = e ∙ ap (found v) y; means = sym x }
   found-go (wrongAt p) n next e q = absurd (let z : _≡_ {A = ℕ} 0 1 = cc in omega arith)
-  found-go cut n next e q = absurd (let z : _≡_ {A = ℕ} 0 1 = cc in omega arith)
+  found-go shortHere n next e q = absurd (let z : _≡_ {A = ℕ} 0 1 = cc in omega arith)
 
   pub item-found : (n : Numbers) (next : ℕ) (r : Piece) → r ≡ pieceAt item itemNumbers s at → r ≡ Found n next → Piecewise item itemNumbers s at n next
   unfolding pieceAt

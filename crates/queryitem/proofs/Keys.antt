@@ -10,7 +10,7 @@ use borrow.Author.Tests.{eq-eqb, ne-eqb}
 use types.Run.{OneOf}
 use denote.Enum.Declared.{tagOf}
 use Rattle.format.specs.Format.{Format}
-use Rattle.format.specs.Located.{Located, found, wrongAt, cut, locate, andThen, onFound}
+use Rattle.format.specs.Located.{Located, found, wrongAt, shortHere, locate, andThen, onFound}
 use Rattle.format.proofs.Delimited.{Delimited}
 use Rattle.format.proofs.At.{fixed-got, delimited-got, sequence-at, either-first}
 use Rattle.charset.specs.Bytes.{byte, digit, after}
@@ -50,12 +50,12 @@ module _ (top : ℕ) (k : top ≤ 15) (s : List ℕ) (at : ℕ) where
   left-told : (l : Located ℕ) → told l ≡ told (onFound (openNumber top) (onFound inl l))
   left-told (found v i) = refl
   left-told (wrongAt p) = refl
-  left-told cut = refl
+  left-told shortHere = refl
 
   right-told : (l : Located ℕ) → Fails (told l) → told l ≡ told (onFound (openNumber top) (onFound inr l))
   right-told (found v i) h = value-fails v h
   right-told (wrongAt p) h = refl
-  right-told cut h = refl
+  right-told shortHere h = refl
 
   pub open-digit : (t : Token) → t ≡ tokenAt (digit 0 top) s at → OneOf (0 ∷ 2 ∷ []) (tagOf the-type t) → t ≡ openAt top s at
   unfolding tokenAt
@@ -97,7 +97,7 @@ module _ (top : ℕ) (k : top ≤ 15) (s : List ℕ) (at : ℕ) where
       let m = means-go a v (g .1 .valid) (cc) in
       record { says = a; is = e ∙ ap (found a) (g .0); means = m .0; most = m .1 }
   opened-go v (wrongAt p) e q = absurd (let z : _≡_ {A = ℕ} 0 1 = cc in omega arith)
-  opened-go v cut e q = absurd (let z : _≡_ {A = ℕ} 0 1 = cc in omega arith)
+  opened-go v shortHere e q = absurd (let z : _≡_ {A = ℕ} 0 1 = cc in omega arith)
 
   pub opened : (v : ℕ) (t : Token) → t ≡ openAt top s at → t ≡ token.Value v → Opened v
   unfolding openAt
@@ -226,10 +226,10 @@ module _ (s : List ℕ) (at : ℕ) where
   pub item-short : (t : Token) → t ≡ tokenAt (byte 83) s at → t ≡ token.Short → Short ≡ pieceAt item itemNumbers s at
   unfolding pieceAt
   item-short t e v =
-      let l : locate (after 83 keyTail) s at ≡ cut = after-at 83 keyTail s at ∙ ap (λ l. andThen l λ a i. locate keyTail s i) (short-token (byte 83) s at t e v) in
+      let l : locate (after 83 keyTail) s at ≡ shortHere = after-at 83 keyTail s at ∙ ap (λ l. andThen l λ a i. locate keyTail s i) (short-token (byte 83) s at t e v) in
       sym (ap (λ l. toldPiece (onFound itemNumbers l))
       (either-first 1 (after 83 keyTail) (after 82 rangeTail) (after-delimited 83 keyTail key-delimited) s at (λ z. cut-not at (sym l ∙ z))
       ∙ ap (onFound inl) l))
     where
-      cut-not : (p : ℕ) → _≡_ {A = Located (ℕ × ((ℕ ⊎ ℕ) × (ℕ ⊎ ℕ)))} cut (wrongAt p) → ⊥
+      cut-not : (p : ℕ) → _≡_ {A = Located (ℕ × ((ℕ ⊎ ℕ) × (ℕ ⊎ ℕ)))} shortHere (wrongAt p) → ⊥
       cut-not p e = let z : _≡_ {A = ℕ} 0 1 = cc in omega arith

@@ -7,12 +7,12 @@ use mathlib.Core.Option.{Option, none, some}
 use lib.Dec.{eqb}
 use lib.ListN.{length}
 use Rattle.format.specs.Format.{Format, choose}
-use Rattle.format.specs.Located.{Located, found, wrongAt, cut, locate, onFound}
+use Rattle.format.specs.Located.{Located, found, wrongAt, shortHere, locate, onFound}
 use Rattle.token.specs.declared.reading.Token.{Token}
 use Rattle.token.specs.declared.reading.Token.the-variants as token
 use Rattle.token.specs.Token.{told}
 use Rattle.token.specs.Refusal.{textWrong, textShort}
-use Rattle.token.specs.Result.{Result, refusal, done}
+use Rattle.token.specs.Result.{Result, refusal, done, ofLocated}
 use Rattle.querygrammar.specs.Query.{orAny, ItemText, item, signboxItem, Sought, itemOf, soughtOf}
 use Rattle.queryitem.specs.declared.reading.Numbers.{Numbers}
 use Rattle.queryitem.specs.declared.reading.Piece.{Piece}
@@ -40,7 +40,7 @@ failedAs token.Short = Short
 abbrev pub toldPiece : Located Numbers → Piece
 toldPiece (found n next) = Found n next
 toldPiece (wrongAt p) = Wrong p
-toldPiece cut = Short
+toldPiece shortHere = Short
 
 unfoldable pub pieceAt : {A : Type 0} → Format A → (A → Numbers) → List ℕ → ℕ → Piece
 pieceAt f numbers s at = toldPiece (onFound numbers (locate f s at))
@@ -66,11 +66,6 @@ abbrev pub resultOf : ℕ → Piece → Result (Numbers × ℕ)
 resultOf size (Found n next) = done (n, next)
 resultOf size (Wrong p) = refusal textWrong p
 resultOf size Short = refusal textShort size
-
-abbrev pub ofLocated : {A : Type 0} → ℕ → Located A → Result (A × ℕ)
-ofLocated size (found a next) = done (a, next)
-ofLocated size (wrongAt p) = refusal textWrong p
-ofLocated size cut = refusal textShort size
 
 unfoldable pub soughtAt : Sort → List ℕ → ℕ → Result (Numbers × ℕ)
 soughtAt k s at = ofLocated (length s) (onFound (λ a. numbersOf (k .sought a)) (locate (k .format) s at))

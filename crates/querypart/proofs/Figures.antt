@@ -7,8 +7,8 @@ use lib.ListN.{length, drop}
 use native.Mathlib.Omega.{arith}
 use borrow.Author.Tests.{eq-eqb, ne-eqb, le-ltb}
 use Rattle.format.specs.Format.{value, other, short, Format, first, second, sequence, optional}
-use Rattle.format.specs.Places.{Outcome, fine, refused, unfinished}
-use Rattle.format.specs.Located.{Located, found, wrongAt, cut, locate, andThen, onFound, ended}
+use Rattle.format.specs.Places.{Outcome, fine, refused, endsShort}
+use Rattle.format.specs.Located.{Located, found, wrongAt, shortHere, locate, andThen, onFound, ended}
 use Rattle.format.proofs.At.{delimited-got, sequence-at, cut-reads}
 use Rattle.format.proofs.Ends.{onFine, ended-on, optional-none, optional-cut}
 use Rattle.charset.specs.Bytes.{byte, digit, after}
@@ -35,7 +35,7 @@ told-on : {A B : Type 0} (to : B → ℕ) (c : A → B) (o : Outcome A) → told
 unfolding onFine
 told-on to c (fine a) = refl
 told-on to c (refused p) = refl
-told-on to c unfinished = refl
+told-on to c endsShort = refl
 
 module _ (s : List ℕ) where
   abbrev endOf : {A : Type 0} → Format A → ℕ → Outcome A
@@ -44,7 +44,7 @@ module _ (s : List ℕ) where
   fails-go : {B : Type 0} (to : B → ℕ) (l : Located ℕ) (q : Located B) → Carries l q → (m : Located ℕ) → l ≡ m → Fails (told m) → told m ≡ toldEnd to (ended 1 (length s) q)
   fails-go to l q k (found v i) e h = value-fails v h
   fails-go to l q k (wrongAt p) e h = sym (ap (λ q. toldEnd to (ended 1 (length s) q)) (k .wrongs p e))
-  fails-go to l q k cut e h = sym (ap (λ q. toldEnd to (ended 1 (length s) q)) (k .cuts e))
+  fails-go to l q k shortHere e h = sym (ap (λ q. toldEnd to (ended 1 (length s) q)) (k .cuts e))
 
   -- where a token fails, the whole fails alike
   end-fails : {B : Type 0} (to : B → ℕ) (g : Format ℕ) (i : ℕ) (q : Located B) (t : Token) → Carries (locate g s i) q → t ≡ tokenAt g s i → Fails t → t ≡ toldEnd to (ended 1 (length s) q)
@@ -54,7 +54,7 @@ module _ (s : List ℕ) where
   -- an optional part that begins with a unit: at the end, where the unit fails, and where it is there
   pub record Starts {A : Type 0} (u : Format ℕ) (f : Format A) (at : ℕ) : Type 0 where
     pub wrongs : (p : ℕ) → locate u s at ≡ wrongAt p → (p ≡ at) × (f .read (drop at s) ≡ other)
-    pub cuts : locate u s at ≡ cut → f .read (drop at s) ≡ short
+    pub cuts : locate u s at ≡ shortHere → f .read (drop at s) ≡ short
 
   module _ {A : Type 0} (f : Format A) (at : ℕ) where
     more-end : at ≤ length s → length s ≤ at → f .read [] ≡ short → endOf (optional f) at ≡ fine none
@@ -72,7 +72,7 @@ module _ (s : List ℕ) where
         go (wrongAt p) z q =
             let w = k .wrongs p z in
             ap Wrong (w .0) ∙ sym (ap (toldEnd to) (ap (ended 1 (length s)) (optional-none f s at (omega arith) (w .1)) ∙ ended-past none (length s) at h))
-        go cut z q = sym (ap (λ l. toldEnd to (ended 1 (length s) l)) (optional-cut f s at h (k .cuts z)))
+        go shortHere z q = sym (ap (λ l. toldEnd to (ended 1 (length s) l)) (optional-cut f s at h (k .cuts z)))
 
   -- FIGURES
 

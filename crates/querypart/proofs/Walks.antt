@@ -11,11 +11,11 @@ use lib.Seq.{sets, length-sets}
 use native.Mathlib.Omega.{arith}
 use borrow.Author.Tests.{ne-eqb, lt-ltb, le-ltb, ltb-true, ltb-false}
 use Rattle.format.specs.Format.{Format, choose, many, writeAll}
-use Rattle.format.specs.Located.{Located, found, wrongAt, cut, locate, onFound}
+use Rattle.format.specs.Located.{Located, found, wrongAt, shortHere, locate, onFound}
 use Rattle.format.proofs.At.{Got}
 use Rattle.format.proofs.Loop.{Walk, walk-start}
 use Rattle.token.specs.Refusal.{textWrong, textShort}
-use Rattle.token.specs.Result.{refusal, done}
+use Rattle.token.specs.Result.{refusal, done, ofLocated}
 use Rattle.token.proofs.Checks.{refusal-done}
 use Rattle.querygrammar.specs.Query.{Item, keyItem, Sought, ItemText, item, openOf, itemOf}
 use Rattle.querygrammar.proofs.Open.{Open, delimited-open, open-got, open-on, open-stop, open-end, open-bad, open-cut}
@@ -25,7 +25,7 @@ use Rattle.queryitem.specs.declared.reading.Piece.{Piece}
 use Rattle.queryitem.specs.declared.reading.Piece.the-variants.{Found, Wrong, Short}
 use Rattle.queryitem.specs.Numbers.{firstCode, lowest, highest, numbersOf}
 use Rattle.queryitem.specs.Words.{wordCount, rowWords, rowsWords}
-use Rattle.queryitem.specs.Pieces.{sort, resultOf, ofLocated, soughtAt}
+use Rattle.queryitem.specs.Pieces.{sort, resultOf, soughtAt}
 use Rattle.queryitem.proofs.Rows.{rows-append, rows-size}
 use Rattle.querypart.specs.declared.items.Count.{Count}
 use Rattle.querypart.specs.Ranges.{reversed, spotsFrom, firstReversed}
@@ -194,7 +194,7 @@ module _ (boxed : Bool) where
       let x = done-same q in
       record { says = a; is = e ∙ ap (λ k. found a (k .1)) (sym x); means = ap (λ k. k .0) x }
   sighted-go s i m next (wrongAt p) e q = refusal-done textWrong p (sym q)
-  sighted-go s i m next cut e q = refusal-done textShort (length s) (sym q)
+  sighted-go s i m next shortHere e q = refusal-done textShort (length s) (sym q)
 
   pub sighted : (s : List ℕ) (i : ℕ) (m : Numbers) (next : ℕ) (r : Piece) → resultOf (length s) r ≡ soughtAt (sort boxed) s i → r ≡ Found m next → Sighted s i m next
   sighted s i m next r e q = sighted-go s i m next (locate f s i) refl (sym (ap (resultOf (length s)) q) ∙ located s i r e)
@@ -202,17 +202,17 @@ module _ (boxed : Bool) where
   wrong-go : (size p : ℕ) (l : Located (sort boxed .Says)) → refusal textWrong p ≡ ofLocated size (onFound num l) → l ≡ wrongAt p
   wrong-go size p (found a j) q = refusal-done textWrong p q
   wrong-go size p (wrongAt r) q = let x : r ≡ p = cc in ap wrongAt x
-  wrong-go size p cut q = absurd (let z : _≡_ {A = ℕ} 1 2 = cc in omega arith)
+  wrong-go size p shortHere q = absurd (let z : _≡_ {A = ℕ} 1 2 = cc in omega arith)
 
   wrong-there : (s : List ℕ) (i p : ℕ) (r : Piece) → resultOf (length s) r ≡ soughtAt (sort boxed) s i → r ≡ Wrong p → locate f s i ≡ wrongAt p
   wrong-there s i p r e q = wrong-go (length s) p (locate f s i) (sym (ap (resultOf (length s)) q) ∙ located s i r e)
 
-  short-go : (size : ℕ) (l : Located (sort boxed .Says)) → refusal textShort size ≡ ofLocated size (onFound num l) → l ≡ cut
+  short-go : (size : ℕ) (l : Located (sort boxed .Says)) → refusal textShort size ≡ ofLocated size (onFound num l) → l ≡ shortHere
   short-go size (found a j) q = refusal-done textShort size q
   short-go size (wrongAt r) q = absurd (let z : _≡_ {A = ℕ} 2 1 = cc in omega arith)
-  short-go size cut q = refl
+  short-go size shortHere q = refl
 
-  short-there : (s : List ℕ) (i : ℕ) (r : Piece) → resultOf (length s) r ≡ soughtAt (sort boxed) s i → r ≡ Short → locate f s i ≡ cut
+  short-there : (s : List ℕ) (i : ℕ) (r : Piece) → resultOf (length s) r ≡ soughtAt (sort boxed) s i → r ≡ Short → locate f s i ≡ shortHere
   short-there s i r e q = short-go (length s) (locate f s i) (sym (ap (resultOf (length s)) q) ∙ located s i r e)
 
   module _ (s : List ℕ) (at from n i first : ℕ) (o p : List ℕ) (v : ItemsInv s at from n i first o p) where
@@ -280,5 +280,5 @@ module _ (boxed : Bool) where
     pub items-cut : i < length s → (r : Piece) (c : Count) → resultOf (length s) r ≡ soughtAt (sort boxed) s i → r ≡ Short
         → c ≡ record { number = textShort; place = length s; count = 0; reversed = 0 } → ItemsIn boxed s at from c o p
     items-cut h r c e w y =
-        items-as c cut (open-cut 1 f (sort-open boxed) s at i (v .done) (v .walk) h (short-there s i r e w)) y
+        items-as c shortHere (open-cut 1 f (sort-open boxed) s at i (v .done) (v .walk) h (short-there s i r e w)) y
         (λ d next x. absurd (let z : _≡_ {A = ℕ} 0 1 = cc in omega arith))

@@ -8,15 +8,15 @@ use lib.Dec.{eqb, ltb}
 use lib.ListN.{length}
 use lib.Seq.{sets}
 use Rattle.format.specs.Format.{choose, many}
-use Rattle.format.specs.Places.{Outcome, fine, refused, unfinished}
+use Rattle.format.specs.Places.{Outcome, fine, refused, endsShort}
 use Rattle.format.specs.Located.{found, locate, ended}
 use Rattle.token.specs.declared.reading.Token.{Token}
 use Rattle.token.specs.declared.reading.Token.the-variants.{Value, Wrong, Short}
-use Rattle.token.specs.Result.{Result, refusal, done}
+use Rattle.token.specs.Result.{Result, refusal, done, ofLocated}
 use Rattle.querygrammar.specs.Query.{figures, variance, varianceOf}
 use Rattle.queryitem.specs.declared.reading.Numbers.{Numbers}
 use Rattle.queryitem.specs.Words.{wordCount, rowsWords}
-use Rattle.queryitem.specs.Pieces.{Sort, sort, ofLocated}
+use Rattle.queryitem.specs.Pieces.{Sort, sort}
 use Rattle.querypart.specs.declared.items.Count.{Count}
 use Rattle.querypart.specs.Ranges.{spotsFrom, firstReversed}
 
@@ -24,7 +24,7 @@ use Rattle.querypart.specs.Ranges.{spotsFrom, firstReversed}
 abbrev pub toldEnd : {A : Type 0} → (A → ℕ) → Outcome A → Token
 toldEnd to (fine a) = Value (to a)
 toldEnd to (refused p) = Wrong p
-toldEnd to unfinished = Short
+toldEnd to endsShort = Short
 
 unfoldable pub figuresEnd : List ℕ → ℕ → Token
 figuresEnd s at = toldEnd (λ f. varianceOf (some f)) (ended 1 (length s) (locate figures s at))

@@ -5,7 +5,7 @@ use mathlib.Core.Path.{_≡_, refl, sym, ap, _∙_}
 use lib.ListN.{length, set, length-append, length-map}
 use native.Mathlib.Omega.{arith}
 use Rattle.format.specs.Format.{Format, many}
-use Rattle.format.specs.Located.{Located, found, wrongAt, cut, locate}
+use Rattle.format.specs.Located.{Located, found, wrongAt, shortHere, locate}
 use Rattle.format.proofs.Delimited.{Fixed, solid}
 use Rattle.format.proofs.At.{fixed-got}
 use Rattle.format.proofs.Loop.{Walk, walk-start, walk-on, walk-stop, walk-end, walk-bad, walk-cut}
@@ -13,7 +13,7 @@ use Rattle.token.specs.Result.{refusal, ofLocated, resultAt, valueAt}
 use Rattle.token.proofs.Checks.{refusal-done}
 use Rattle.token.proofs.Results.{onDone-refusal}
 use Rattle.reader.specs.declared.arrays.Count.{Count}
-use Rattle.reader.specs.Signs.{padded, zeros}
+use Rattle.token.specs.Padded.{padded, zeros}
 use Rattle.reader.specs.Inner.{countOf, Holds}
 
 -- A list put into an array, one value after the other.
@@ -102,7 +102,7 @@ module _ {A : Type 0} (w size : ℕ) (f : Format A) (x : Fixed w size f) (s : Li
     out-go (wrongAt j) e q z h =
         let k : j ≡ place = cc in
         out-as (wrongAt j) (walk-bad w f (x .delimited) s at i read (p .walk) j e (λ o. z (sym k ∙ o))) (cc)
-    out-go cut e q z h = out-as cut (walk-cut w f (x .delimited) s at i read (p .walk) h e) (cc)
+    out-go shortHere e q z h = out-as shortHere (walk-cut w f (x .delimited) s at i read (p .walk) h e) (cc)
 
     pub out-refused : valueAt f s i ≡ refusal number place → (place ≡ i → ⊥) → i < length s
         → Out f s at read (record { number = number; place = place; count = 0 })

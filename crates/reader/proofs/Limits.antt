@@ -7,15 +7,15 @@ use lib.Dec.{leb, lit<}
 use lib.ListN.{length}
 use native.Mathlib.Omega.{arith}
 use borrow.Author.Tests.{leb-true, leb-false, le-leb, lt-ltb, le-ltb}
-use Rattle.format.specs.Places.{Outcome, fine, refused, unfinished}
+use Rattle.format.specs.Places.{Outcome, fine, refused, endsShort}
 use Rattle.charset.specs.declared.Charset.{Charset}
-use Rattle.grammar.specs.Sign.{Meaning}
-use Rattle.grammar.specs.SignLaws.{readSign}
+use Rattle.grammar.specs.Sign.{Meaning, readSign}
 use Rattle.token.specs.Refusal.{prefixLong, signboxLong}
 use Rattle.token.specs.Result.{Result, refusal, done, andThen, check, ofOutcome}
 use Rattle.token.proofs.Checks.{check-done, andThen-done, Counted, done-counted, check-counted, andThen-counted, outcome-counted}
 use Rattle.reader.specs.declared.arrays.Head.{Head}
-use Rattle.reader.specs.Signs.{withinLimits, signOf, padded}
+use Rattle.token.specs.Padded.{padded}
+use Rattle.reader.specs.Signs.{withinLimits, signOf}
 use Rattle.reader.specs.Inner.{headOf, HoldsSymbols, ReadAs, whole, TextInto, ReadInto, limited}
 
 -- the limits, of a sign that was read
@@ -35,7 +35,7 @@ unfolding limited
 limited-go size (fine m) h array codes xs ys q =
     rw (q .0) (limits-go m array codes xs ys (q .1) (leb (length (m .prefix)) 32) (leb (length (m .symbols)) 64) refl refl)
 limited-go size (refused p) h array codes xs ys q = rw q refl
-limited-go size unfinished h array codes xs ys q = rw q refl
+limited-go size endsShort h array codes xs ys q = rw q refl
 
 pub read-limited : (set : Charset) (s : List ℕ) (h r : Head) (array codes xs ys : List ℕ) → TextInto set s h array codes xs ys → r ≡ limited h → ReadInto set s r array codes xs ys
 unfolding signOf
@@ -50,7 +50,7 @@ pub record Limited (set : Charset) (s : List ℕ) (m : Meaning) : Type 0 where
 outcome-done : (size : ℕ) (o : Outcome Meaning) (m : Meaning) → ofOutcome size o ≡ done m → o ≡ fine m
 outcome-done size (fine k) m e = let z : k ≡ m = cc in ap fine z
 outcome-done size (refused p) m e = absurd (let z : _≡_ {A = ℕ} 0 1 = cc in omega arith)
-outcome-done size unfinished m e = absurd (let z : _≡_ {A = ℕ} 0 1 = cc in omega arith)
+outcome-done size endsShort m e = absurd (let z : _≡_ {A = ℕ} 0 1 = cc in omega arith)
 
 pub sign-limited : (set : Charset) (s : List ℕ) (m : Meaning) → signOf set s ≡ done m → Limited set s m
 unfolding signOf

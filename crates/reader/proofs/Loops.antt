@@ -10,7 +10,7 @@ use Rattle.charset.specs.declared.Charset.{Charset}
 use Rattle.charset.specs.Tokens.{Tokens, tokens}
 use Rattle.charset.proofs.Sets.{lawful}
 use Rattle.grammar.specs.Sign.{prefixSymbol, spatial}
-use Rattle.grammar.specs.SignLaws.{spatialSize}
+use Rattle.grammar.specs.Size.{spatialSize}
 use Rattle.grammar.proofs.Sign.{symbol-fixed, spatial-fixed}
 use Rattle.token.specs.declared.reading.Token.the-variants as token
 use Rattle.token.specs.Result.{refusal}
@@ -20,7 +20,7 @@ use Rattle.part.specs.declared.reading.Placed.the-variants.{At, Wrong}
 use Rattle.part.specs.Placed.{placedAt, placedResult}
 use Rattle.part.proofs.Placing.{placed-result}
 use Rattle.reader.specs.declared.arrays.Count.{Count}
-use Rattle.reader.specs.Signs.{padded, zeros}
+use Rattle.token.specs.Padded.{padded, zeros}
 use Rattle.reader.specs.Inner.{PrefixIn, SymbolsIn}
 use Rattle.reader.proofs.Filling.{padded-none, Progress, progress-start, progress-on, grows, put-more, held-length, Out, out-stop, out-end, out-refused}
 

@@ -1,4 +1,4 @@
--- From the head and the symbols of a signbox to the signbox: one law for each return.
+-- From the lead and the symbols of a signbox to the signbox: one law for each return.
 use Prim.Native.Nat.{ℕ, _+_, _≤_}
 use mathlib.Core.List.{List, map, map-map}
 use mathlib.Core.Path.{_≡_, refl, sym, ap, _∙_}
@@ -10,9 +10,9 @@ use Rattle.format.proofs.At.{fixed-got, sequence-at}
 use Rattle.charset.specs.declared.Charset.{Charset}
 use Rattle.charset.specs.Tokens.{Tokens, tokens}
 use Rattle.charset.proofs.Sets.{lawful}
-use Rattle.grammar.specs.Sign.{Spatial, head, spatial, signbox, toSpatial}
-use Rattle.grammar.specs.SignLaws.{headSize}
-use Rattle.grammar.proofs.Sign.{head-fixed}
+use Rattle.grammar.specs.Sign.{Spatial, lead, spatial, signbox, toSpatial}
+use Rattle.grammar.specs.Size.{leadSize}
+use Rattle.grammar.proofs.Sign.{lead-fixed}
 use Rattle.token.specs.Result.{Result, refusal, done, onDone, andThen, ofLocated, resultAt}
 use Rattle.token.proofs.Results.{located-counted, onDone-refusal, value-there, then-result, on-result}
 use Rattle.part.specs.declared.reading.Placed.the-variants.{At}
@@ -20,7 +20,7 @@ use Rattle.part.specs.Placed.{placedAt, placedResult}
 use Rattle.part.proofs.Placing.{placed-result}
 use Rattle.reader.specs.declared.arrays.Count.{Count}
 use Rattle.reader.specs.declared.arrays.Head.{Head}
-use Rattle.reader.specs.Signs.{padded}
+use Rattle.token.specs.Padded.{padded}
 use Rattle.reader.specs.Inner.{Holds, SymbolsIn, noHead, BoxAs, SignboxIn}
 use Rattle.reader.proofs.Counts.{was-refused, Read, was-read}
 
@@ -34,39 +34,39 @@ module _ (set : Charset) (s : List ℕ) (at n : ℕ) where
   abbrev symbolsAt : ℕ → Result (List (ℕ × (ℕ × ℕ)) × ℕ)
   symbolsAt i = resultAt (many (spatial (tokens set))) s i
 
-  -- a signbox with this head
+  -- a signbox with this lead
   abbrev boxed : ℕ × (ℕ × ℕ) → Result (List (ℕ × (ℕ × ℕ)) × ℕ) → Result (Box × ℕ)
   boxed h = onDone (λ p. ((h, p .0), p .1))
 
-  box-at : resultAt (signbox t) s at ≡ andThen (resultAt (head t) s at) λ h. boxed (h .0) (symbolsAt (h .1))
+  box-at : resultAt (signbox t) s at ≡ andThen (resultAt (lead t) s at) λ h. boxed (h .0) (symbolsAt (h .1))
   box-at =
-      ap (ofLocated (length s)) (sequence-at (t .unit) (head t) (λ h. many (spatial t)) (head-fixed t (lawful set) .delimited) s at)
-      ∙ then-result (length s) (λ h i. onFound (λ l. (h, l)) (locate (many (spatial t)) s i)) (locate (head t) s at)
-      ∙ ap (andThen (resultAt (head t) s at)) (λ i h. on-result (length s) (λ l. (h .0, l)) (locate (many (spatial t)) s (h .1)) i)
+      ap (ofLocated (length s)) (sequence-at (t .unit) (lead t) (λ h. many (spatial t)) (lead-fixed t (lawful set) .delimited) s at)
+      ∙ then-result (length s) (λ h i. onFound (λ l. (h, l)) (locate (many (spatial t)) s i)) (locate (lead t) s at)
+      ∙ ap (andThen (resultAt (lead t) s at)) (λ i h. on-result (length s) (λ l. (h .0, l)) (locate (many (spatial t)) s (h .1)) i)
 
   module _ (codes xs ys : List ℕ) where
     box-as : (x : Result (Box × ℕ)) (h : Head) → resultAt (signbox t) s at ≡ x → BoxAs n x h codes xs ys → SignboxIn set s at n h codes xs ys
     box-as x h e b = record { is = rw e b }
 
-    -- the head was refused
-    pub box-headless : (number place : ℕ) (h : Head) → placedResult (length s) (placedAt (head t) s at) ≡ refusal number place → h ≡ noHead number place
+    -- the lead was refused
+    pub box-leadless : (number place : ℕ) (h : Head) → placedResult (length s) (placedAt (lead t) s at) ≡ refusal number place → h ≡ noHead number place
         → SignboxIn set s at n h codes xs ys
-    box-headless number place h e =
+    box-leadless number place h e =
         box-as (refusal number place) h
-        (box-at ∙ ap (λ r. andThen r λ h. boxed (h .0) (symbolsAt (h .1))) (onDone-refusal (λ r. r .0) (resultAt (head t) s at) number place (sym (placed-result (head t) s at) ∙ e)))
+        (box-at ∙ ap (λ r. andThen r λ h. boxed (h .0) (symbolsAt (h .1))) (onDone-refusal (λ r. r .0) (resultAt (lead t) s at) number place (sym (placed-result (lead t) s at) ∙ e)))
 
-  module _ (m x y w : ℕ) (e : placedAt (head t) s at ≡ At m x y) (k : w ≡ headSize set) where
-    head-same : Fixed (t .unit) w (head t)
-    head-same = rw k (head-fixed t (lawful set))
+  module _ (m x y w : ℕ) (e : placedAt (lead t) s at ≡ At m x y) (k : w ≡ leadSize set) where
+    lead-same : Fixed (t .unit) w (lead t)
+    lead-same = rw k (lead-fixed t (lawful set))
 
-    head-there : locate (head t) s at ≡ found (m, (x, y)) (at + w)
-    head-there = value-there (t .unit) w (head t) head-same s at (m, (x, y)) (sym (placed-result (head t) s at) ∙ ap (placedResult (length s)) e)
+    lead-there : locate (lead t) s at ≡ found (m, (x, y)) (at + w)
+    lead-there = value-there (t .unit) w (lead t) lead-same s at (m, (x, y)) (sym (placed-result (lead t) s at) ∙ ap (placedResult (length s)) e)
 
-    pub head-room : at + w ≤ length s
-    head-room = fixed-got (t .unit) w (head t) head-same s at (m, (x, y)) (at + w) head-there .1 .room
+    pub lead-room : at + w ≤ length s
+    lead-room = fixed-got (t .unit) w (lead t) lead-same s at (m, (x, y)) (at + w) lead-there .1 .room
 
     box-then : resultAt (signbox t) s at ≡ boxed (m, (x, y)) (symbolsAt (at + w))
-    box-then = box-at ∙ ap (λ l. andThen (ofLocated (length s) l) λ h. boxed (h .0) (symbolsAt (h .1))) head-there
+    box-then = box-at ∙ ap (λ l. andThen (ofLocated (length s) l) λ h. boxed (h .0) (symbolsAt (h .1))) lead-there
 
     module _ (r : Count) (codes xs ys : List ℕ) (v : SymbolsIn set s (at + w) r codes xs ys) where
       pub box-refused : (h : Head) → (r .number ≡ 0 → ⊥) → h ≡ noHead (r .number) (r .place) → SignboxIn set s at n h codes xs ys

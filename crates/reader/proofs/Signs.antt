@@ -7,7 +7,7 @@ use lib.ListN.{length, drop}
 use native.Mathlib.Omega.{arith}
 use borrow.Author.Tests.{lt-ltb, le-ltb}
 use Rattle.format.specs.Format.{Format, other, short, optional, many}
-use Rattle.format.specs.Located.{Located, found, wrongAt, cut, locate, andThen as thenLocated, onFound}
+use Rattle.format.specs.Located.{Located, found, wrongAt, shortHere, locate, andThen as thenLocated, onFound}
 use Rattle.format.proofs.Delimited.{Delimited, solid}
 use Rattle.format.proofs.Parts.{optional-lawful}
 use Rattle.format.proofs.Many.{many-lawful}
@@ -16,8 +16,8 @@ use Rattle.format.proofs.Ends.{optional-begun, optional-other, optional-short, 
 use Rattle.charset.specs.declared.Charset.{Charset}
 use Rattle.charset.specs.Tokens.{Tokens, tokens}
 use Rattle.charset.proofs.Sets.{lawful}
-use Rattle.grammar.specs.Sign.{Meaning, Valid, prefixSymbol, prefixSymbols, prefix, head, spatial, signbox, parts, sign, toPrefix, toMeaning, ofMeaning}
-use Rattle.grammar.proofs.Sign.{symbol-fixed, head-fixed, prefix-lawful}
+use Rattle.grammar.specs.Sign.{Meaning, Valid, prefixSymbol, prefixSymbols, prefix, lead, spatial, signbox, parts, sign, toPrefix, toMeaning, ofMeaning}
+use Rattle.grammar.proofs.Sign.{symbol-fixed, lead-fixed, prefix-lawful}
 use Rattle.token.specs.declared.reading.Token.the-variants as token
 use Rattle.token.specs.Refusal.{textWrong, textShort}
 use Rattle.token.specs.Result.{Result, refusal, done, onDone, ofLocated, resultAt}
@@ -27,7 +27,7 @@ use Rattle.token.proofs.Checks.{refusal-done}
 use Rattle.token.proofs.Results.{located-counted, located-done, on-result}
 use Rattle.reader.specs.declared.arrays.Count.{Count}
 use Rattle.reader.specs.declared.arrays.Head.{Head}
-use Rattle.reader.specs.Signs.{padded, zeros}
+use Rattle.token.specs.Padded.{padded, zeros}
 use Rattle.reader.specs.Inner.{PrefixIn, headOf, noHead, BoxAs, SignboxIn, Begun, ReadAs, SignInto}
 use Rattle.reader.proofs.Counts.{was-refused, Read, was-read}
 use Rattle.reader.proofs.Filling.{padded-none}
@@ -51,7 +51,7 @@ meant = onDone (λ p. (toMeaning (p .0), p .1))
 meant-signed : (size : ℕ) (p : Pre) (l : Located Box) → meant (ofLocated size (onFound (λ b. (p, b)) l)) ≡ signed p (ofLocated size l)
 meant-signed size p (found b i) = refl
 meant-signed size p (wrongAt q) = refl
-meant-signed size p cut = refl
+meant-signed size p shortHere = refl
 
 module _ (set : Charset) (s : List ℕ) where
   abbrev t : Tokens
@@ -110,13 +110,13 @@ module _ (set : Charset) (s : List ℕ) where
   none-there : [] ≡ s → t .marker 0 0 .read (drop 0 s) ≡ short → locate (optional (prefix t)) s 0 ≡ found none 0
   none-there e o = optional-empty (t .marker 0 0) (λ a. prefixSymbols t) s e (marker-d .empty)
 
-  no-box : [] ≡ s → locate (signbox t) s 0 ≡ cut
+  no-box : [] ≡ s → locate (signbox t) s 0 ≡ shortHere
   no-box e =
-      let d = head-fixed t (lawful set) .delimited in
-      sequence-at (t .unit) (head t) (λ h. many (spatial t)) d s 0
-      ∙ ap (λ l. thenLocated l λ h i. onFound (λ l. (h, l)) (locate (many (spatial t)) s i)) (locate-empty (head t) s e (d .empty))
+      let d = lead-fixed t (lawful set) .delimited in
+      sequence-at (t .unit) (lead t) (λ h. many (spatial t)) d s 0
+      ∙ ap (λ l. thenLocated l λ h i. onFound (λ l. (h, l)) (locate (many (spatial t)) s i)) (locate-empty (lead t) s e (d .empty))
 
-  short-go : (u : List ℕ) → u ≡ s → t .marker 0 0 .read (drop 0 s) ≡ short → locate (parts t) s 0 ≡ cut
+  short-go : (u : List ℕ) → u ≡ s → t .marker 0 0 .read (drop 0 s) ≡ short → locate (parts t) s 0 ≡ shortHere
   short-go [] e o = parts-at ∙ ap (λ l. thenLocated l goes) (none-there e o) ∙ ap (onFound (λ b. (none, b))) (no-box e)
   short-go (b ∷ u) e o =
       let k : 0 < length s = rw (← e) (omega arith) in
@@ -125,7 +125,7 @@ module _ (set : Charset) (s : List ℕ) where
   pub sign-short : (array codes xs ys : List ℕ) (h : Head) → tokenAt (t .marker 0 0) s 0 ≡ token.Short → h ≡ noHead textShort size → SignInto set s h array codes xs ys
   unfolding tokenAt
   sign-short array codes xs ys h e =
-      sign-refused array codes xs ys cut textShort size h (short-go s refl (cut-reads (t .marker 0 0) s 0 (told-short (locate (t .marker 0 0) s 0) e))) refl
+      sign-refused array codes xs ys shortHere textShort size h (short-go s refl (cut-reads (t .marker 0 0) s 0 (told-short (locate (t .marker 0 0) s 0) e))) refl
 
   -- A PREFIX
 
@@ -174,7 +174,7 @@ module _ (set : Charset) (s : List ℕ) where
     refused-after : (l : Located (List ℕ)) (number place : ℕ) → ofLocated size l ≡ refusal number place → ofLocated size (after l) ≡ refusal number place
     refused-after (found l i) number place q = refusal-done number place (sym q)
     refused-after (wrongAt p) number place q = cc
-    refused-after cut number place q = cc
+    refused-after shortHere number place q = cc
 
     module _ (r : Count) (array codes xs ys : List ℕ) (v : PrefixIn set s w r array) where
       pub prefix-refused : (h : Head) → (r .number ≡ 0 → ⊥) → h ≡ noHead (r .number) (r .place) → SignInto set s h array codes xs ys
@@ -208,7 +208,7 @@ module _ (set : Charset) (s : List ℕ) where
 
       pub prefix-none-cut : (h : Head) → r .number ≡ 0 → r .count ≤ 0 → length s ≤ r .place → h ≡ noHead textShort size → SignInto set s h array codes xs ys
       prefix-none-cut h z n p =
-          sign-refused array codes xs ys cut textShort size h (parts-then (found [] (r .place)) (none-found z n) ∙ rw (le-ltb (r .place) size p)) refl
+          sign-refused array codes xs ys shortHere textShort size h (parts-then (found [] (r .place)) (none-found z n) ∙ rw (le-ltb (r .place) size p)) refl
 
       -- symbols, and then the signbox
       some-go : (l : List ℕ) → many-found ≡ found l (r .place) → r .count ≡ length l → 0 < r .count → array ≡ padded 32 (map (λ c. c) l)

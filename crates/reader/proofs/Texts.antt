@@ -4,8 +4,8 @@ use mathlib.Core.List.{List}
 use mathlib.Core.Path.{_≡_, refl, sym, ap, _∙_}
 use lib.ListN.{length}
 use native.Mathlib.Omega.{arith}
-use Rattle.format.specs.Places.{Outcome, fine, refused, unfinished}
-use Rattle.format.specs.Located.{Located, found, wrongAt, cut, locate, ended}
+use Rattle.format.specs.Places.{Outcome, fine, refused, endsShort}
+use Rattle.format.specs.Located.{Located, found, wrongAt, shortHere, locate, ended}
 use Rattle.format.proofs.At.{got}
 use Rattle.format.proofs.Ends.{reading-at}
 use Rattle.charset.specs.declared.Charset.{Charset}
@@ -17,7 +17,7 @@ use Rattle.token.specs.Result.{ofOutcome, ofLocated}
 use Rattle.token.specs.Ends.{leftOver}
 use Rattle.token.proofs.Ends.{end-wrong, end-short, end-fine}
 use Rattle.reader.specs.declared.arrays.Head.{Head}
-use Rattle.reader.specs.Signs.{padded}
+use Rattle.token.specs.Padded.{padded}
 use Rattle.reader.specs.Inner.{headOf, noHead, HoldsSymbols, ReadAs, SignInto, whole, TextInto}
 
 module _ (set : Charset) (s : List ℕ) (h : Head) (array codes xs ys : List ℕ) (v : SignInto set s h array codes xs ys) where
@@ -34,7 +34,7 @@ module _ (set : Charset) (s : List ℕ) (h : Head) (array codes xs ys : List ℕ
       → ReadAs (whole (ofOutcome size (ended (tokens set .unit) size l))) h array codes xs ys
   refused-go (found m i) q z = absurd (z (ap (λ k. k .number) (q .0)))
   refused-go (wrongAt p) q z = q
-  refused-go cut q z = q
+  refused-go shortHere q z = q
 
   pub text-refused : (h .number ≡ 0 → ⊥) → TextInto set s h array codes xs ys
   text-refused z = text-as (ended (tokens set .unit) size there) h refl (refused-go there (v .is) z)
@@ -43,15 +43,15 @@ module _ (set : Charset) (s : List ℕ) (h : Head) (array codes xs ys : List ℕ
   record Said : Type 0 where
     pub meaning : Meaning
     pub is : there ≡ found meaning (h .place)
-    pub head : h ≡ headOf meaning (length (meaning .prefix)) (h .place)
+    pub lead : h ≡ headOf meaning (length (meaning .prefix)) (h .place)
     pub holds : (array ≡ padded 32 (meaning .prefix)) × HoldsSymbols (meaning .symbols) codes xs ys
 
   said-go : (l : Located Meaning) → there ≡ l → ReadAs (ofLocated size l) h array codes xs ys → h .number ≡ 0 → Said
   said-go (found m i) e q z =
       let p : i ≡ h .place = sym (ap (λ k. k .place) (q .0)) in
-      record { meaning = m; is = e ∙ ap (found m) p; head = q .0 ∙ ap (headOf m (length (m .prefix))) p; holds = q .1 }
+      record { meaning = m; is = e ∙ ap (found m) p; lead = q .0 ∙ ap (headOf m (length (m .prefix))) p; holds = q .1 }
   said-go (wrongAt p) e q z = absurd (let a : h .number ≡ 1 = ap (λ k. k .number) q in omega arith)
-  said-go cut e q z = absurd (let a : h .number ≡ 2 = ap (λ k. k .number) q in omega arith)
+  said-go shortHere e q z = absurd (let a : h .number ≡ 2 = ap (λ k. k .number) q in omega arith)
 
   said : h .number ≡ 0 → Said
   said z = said-go there refl (v .is) z
@@ -71,12 +71,12 @@ module _ (set : Charset) (s : List ℕ) (h : Head) (array codes xs ys : List ℕ
     text-over r q = text-end (refused (h .place)) r (end-wrong (said z .meaning) set size (h .place) left (sign-inside z) l q)
 
     pub text-cut : (r : Head) → left ≡ textShort → r ≡ noHead textShort size → TextInto set s r array codes xs ys
-    text-cut r q = text-end unfinished r (end-short (said z .meaning) set size (h .place) left (sign-inside z) l q)
+    text-cut r q = text-end endsShort r (end-short (said z .meaning) set size (h .place) left (sign-inside z) l q)
 
     pub text-read : (left ≡ textWrong → ⊥) → (left ≡ textShort → ⊥)
         → TextInto set s (record { number = 0; place = 0; marker = h .marker; «max_x» = h .«max_x»; «max_y» = h .«max_y»; «prefix_count» = h .«prefix_count»; «symbol_count» = h .«symbol_count» }) array codes xs ys
     text-read p q =
-        let k = said z .head in
+        let k = said z .lead in
         text-end (fine (said z .meaning)) _ (end-fine (said z .meaning) set size (h .place) left (sign-inside z) l p q) (
           (λ i. record { number = 0; place = 0; marker = k i .marker; «max_x» = k i .«max_x»; «max_y» = k i .«max_y»; «prefix_count» = k i .«prefix_count»; «symbol_count» = k i .«symbol_count» }),
           said z .holds,

@@ -12,11 +12,11 @@ use Rattle.token.specs.declared.reading.Token.the-variants as token
 use Rattle.token.specs.Refusal.{prefixLong, signboxLong}
 use Rattle.token.specs.Result.{Result, refusal, done, onDone, ofOutcome, resultAt}
 use Rattle.token.specs.Token.{tokenAt}
-use Rattle.grammar.specs.Sign.{Spatial, Meaning, prefixSymbol, spatial, signbox, sign, toSpatial, toMeaning}
-use Rattle.grammar.specs.SignLaws.{readSign}
+use Rattle.grammar.specs.Sign.{Spatial, Meaning, prefixSymbol, spatial, signbox, sign, toSpatial, toMeaning, readSign}
 use Rattle.reader.specs.declared.arrays.Count.{Count}
 use Rattle.reader.specs.declared.arrays.Head.{Head}
-use Rattle.reader.specs.Signs.{padded, signOf}
+use Rattle.token.specs.Padded.{padded}
+use Rattle.reader.specs.Signs.{signOf}
 
 -- zero or more, counted; and a lent array that holds the first n of them
 abbrev pub countOf : {A : Type 0} → Result (List A × ℕ) → Count

@@ -2,7 +2,7 @@
 ghost use mathlib.Core.Path.{_≡_};
 ghost use Prim.Native.Nat.{_≤_};
 ghost use lib.ListN.{length, set as setAt};
-ghost use Rattle.reader.specs.Signs.{zeros};
+ghost use Rattle.token.specs.Padded.{zeros};
 ghost use Rattle.reader.specs.Inner.{PrefixIn, SymbolsIn, SignboxIn, Begun, SignInto, TextInto, ReadInto, noHead, limited};
 use charset::Charset;
 use part::reading::Placed;
@@ -155,9 +155,9 @@ fn signbox_into(
     requires { ⌜ (at ≤ length (now s)) × (now codes ≡ zeros 64) × (now xs ≡ zeros 64) × (now ys ≡ zeros 64) ⌝ }
     ensures { λ r. ⌜ SignboxIn set (now (s .entry)) at before r (now (codes .exit)) (now (xs .exit)) (now (ys .exit)) ⌝ }
 {
-    match part::reading::head_at(set, s, at) {
+    match part::reading::lead_at(set, s, at) {
         Placed::At(m, x, y) => {
-            let size = part::reading::head_size(set);
+            let size = part::reading::lead_size(set);
             let t = symbols_into(set, s, at + size, codes, xs, ys);
             let number = t.number;
             let place = t.place;

@@ -14,8 +14,8 @@ use Rattle.token.specs.Refusal.{tooMany}
 use Rattle.token.specs.Result.{refusal, done}
 use Rattle.query.proofs.Answers.{query-counted}
 use Rattle.lines.specs.Lines.{lines}
-use Rattle.run.specs.Narrowing.{narrowing, answerOf, listAfter}
-use Rattle.run.proofs.Rising.{upTo-length}
+use Rattle.narrowing.specs.Narrowing.{narrowing, answerOf, listAfter}
+use Rattle.narrowing.proofs.Rising.{upTo-length}
 use Rattle.entries.specs.Entries.{entriesOf}
 use Rattle.dictionary.specs.Opening.{opening}
 use Rattle.dictionary.proofs.Openings.{opening-sound}

@@ -12,10 +12,10 @@ use Rattle.format.specs.Format.{keep}
 use Rattle.charset.specs.declared.Charset.the-variants.{Fsw}
 use Rattle.token.specs.Result.{Result, refusal, done, onDone, inRoom, output}
 use Rattle.lines.specs.Lines.{lines}
-use Rattle.run.specs.declared.Narrowed.{Narrowed}
-use Rattle.run.specs.Narrowing.{rising, narrowing, answerOf, listAfter, filled}
-use Rattle.run.proofs.Keeping.{keep-length}
-use Rattle.run.proofs.Rising.{upTo-length}
+use Rattle.narrowing.specs.declared.Narrowed.{Narrowed}
+use Rattle.narrowing.specs.Narrowing.{rising, narrowing, answerOf, listAfter, filled}
+use Rattle.narrowing.proofs.Keeping.{keep-length}
+use Rattle.narrowing.proofs.Rising.{upTo-length}
 use Rattle.entries.specs.Entries.{entriesOf}
 use Rattle.books.specs.Book.{bookOf, Sound}
 use Rattle.books.proofs.Forms.{plain-step}

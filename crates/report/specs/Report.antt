@@ -11,10 +11,10 @@ use Rattle.charset.specs.declared.Charset.the-variants.{Fsw}
 use Rattle.token.specs.Refusal.{tooMany}
 use Rattle.token.specs.Result.{Result, refusal, done}
 use Rattle.lines.specs.Lines.{lines, firstLine}
-use Rattle.run.specs.declared.Narrowed.{Narrowed}
+use Rattle.narrowing.specs.declared.Narrowed.{Narrowed}
 use Rattle.dictionary.specs.Opening.{opening}
 use Rattle.dictionary.specs.Narrowing.{narrowed}
-use Rattle.text.specs.Text.{keyLine, entryLines}
+use Rattle.keylines.specs.Text.{keyLine, entryLines}
 
 -- the input's query: the bytes before the first byte 10, or all if there is none
 abbrev pub queryIn : List ℕ → List ℕ

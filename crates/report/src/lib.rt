@@ -6,30 +6,30 @@ ghost use lib.ListN.{length, drop};
 ghost use Rattle.token.specs.Wrote.{Wrote};
 ghost use Rattle.report.specs.Report.{within, refusalText, foundText, searchText, outputOf, Part};
 use charset::Charset;
+use keylines::line::put_entries;
+use keylines::line::put_line;
 use lines::walk::count;
 use lines::walk::line_end;
-use text::line::put_entries;
-use text::line::put_line;
 use token::refusal::DONE;
 use token::refusal::TOO_MANY;
 
-const MOST_QUERY_BYTES: usize = 1024;
+const PROGRAM_QUERY_BYTES: usize = 1024;
 
-const MOST_BYTES: usize = 49152;
+const PROGRAM_BYTES: usize = 49152;
 
-const MOST_LINES: usize = 1024;
+const PROGRAM_LINES: usize = 1024;
 
 // Whether a query and a dictionary are within the three sizes.
 fn is_within(query: &[u8], dict: &[u8]) -> bool
     ensures { λ r. ⌜ r ≡ within (now (query .entry)) (now (dict .entry)) ⌝ }
 {
-    if MOST_QUERY_BYTES < query.len() {
+    if PROGRAM_QUERY_BYTES < query.len() {
         return false;
     }
-    if MOST_BYTES < dict.len() {
+    if PROGRAM_BYTES < dict.len() {
         return false;
     }
-    count(dict) <= MOST_LINES
+    count(dict) <= PROGRAM_LINES
 }
 
 // 38 bytes hold any number and place.
@@ -66,14 +66,7 @@ fn search(query: &[u8], dict: &[u8], list: &mut [u16], flags: &mut [u8], out: &m
     if unopened != DONE {
         return put_refusal(out, unopened, opened.place);
     }
-    let narrowed = dictionary::narrowing::narrow_with(
-        Charset::Fsw,
-        dict,
-        list,
-        lines,
-        query,
-        flags,
-    );
+    let narrowed = dictionary::lent::narrow_with(Charset::Fsw, dict, list, lines, query, flags);
     let kept = narrowed.kept;
     let refused = narrowed.number;
     if refused != DONE {

@@ -12,12 +12,13 @@ use Rattle.querygrammar.specs.Query.{Query}
 use Rattle.query.specs.Reading.{queryOf, readingOf}
 use Rattle.query.proofs.Answers.{query-counted}
 use Rattle.verdict.specs.Verdict.{verdictOn, verdictIn}
+use Rattle.verdict.proofs.VerdictLaws.{verdict-laws}
 use Rattle.lines.specs.Lines.{lines, lineOf}
-use Rattle.run.specs.Narrowing.{rising}
-use Rattle.run.specs.Run.{refusalOf}
-use Rattle.run.specs.Form as Form
-use Rattle.run.proofs.Rising.{upTo-length, upTo-rising, rising-keep}
-use Rattle.run.proofs.Runs as Runs
+use Rattle.narrowing.specs.Narrowing.{rising}
+use Rattle.narrowing.specs.Run.{refusalOf}
+use Rattle.narrowing.specs.Form as Form
+use Rattle.narrowing.proofs.Rising.{upTo-length, upTo-rising, rising-keep}
+use Rattle.narrowing.proofs.Runs as Runs
 use Rattle.entries.specs.Entries.{entriesOf, isDone}
 use Rattle.entries.specs.Judging.{meets}
 use Rattle.books.specs.Book.{bookOf, otherText}
@@ -78,6 +79,7 @@ pub demand3 : Demand3
 unfolding opened opening narrowed
 demand3 =
     record {
+      meets = verdict-laws .exactly;
       ending = λ set dict list o queries.
           claim .ending (bookOf (set, dict)) list o queries (all-fit queries)
           ∙ rw (upTo-length (length (lines dict)), left-meeting set dict queries);

@@ -10,8 +10,8 @@ use lib.ListN.{length, getD, take, drop, drop-of-length-le}
 use lib.Seq.{drop-cons}
 use Rattle.lines.specs.Lines.{lines, firstLine, lineOf, lineStart}
 use Rattle.lines.proofs.Starts.{Line, start-first, line-at}
-use Rattle.run.specs.declared.Narrowed.{Narrowed}
-use Rattle.run.specs.Run.{Ended, nextCount, answering, run, total}
+use Rattle.narrowing.specs.declared.Narrowed.{Narrowed}
+use Rattle.narrowing.specs.Run.{Ended, nextCount, answering, run, total}
 use Rattle.runs.specs.Runs.{endedAs}
 
 pub next-kept : (n : ℕ) (answer : Narrowed) → answer .number ≡ 0 → answer .kept ≡ nextCount n answer

@@ -9,9 +9,9 @@ use lib.ListN.{length}
 use Rattle.charset.specs.declared.Charset.{Charset}
 use Rattle.token.specs.Result.{Result, refusal, done, inRoom, leftAs, output}
 use Rattle.lines.specs.Lines.{lines, ended}
-use Rattle.run.specs.declared.Narrowed.{Narrowed}
-use Rattle.run.specs.Narrowing.{notNarrowed}
-use Rattle.run.specs.Run.{Ended, run, total}
+use Rattle.narrowing.specs.declared.Narrowed.{Narrowed}
+use Rattle.narrowing.specs.Narrowing.{notNarrowed}
+use Rattle.narrowing.specs.Run.{Ended, run, total}
 use Rattle.dictionary.specs.declared.Opened.{Opened}
 use Rattle.dictionary.specs.Opening.{opening, openedAs, opened}
 use Rattle.dictionary.specs.Narrowing.{narrowed}

@@ -5,16 +5,20 @@ use Prim.Native.Nat.{ℕ, _+_}
 use mathlib.Core.Path.{_≡_}
 use mathlib.Core.List.{List, [], _∷_, map, Perm}
 use mathlib.Core.Bool.{Bool, true, _&&_}
+use mathlib.Core.Logic.{_↔_}
 use lib.ListN.{length, drop}
 use Rattle.format.specs.Format.{keep}
 use Rattle.charset.specs.declared.Charset.{Charset}
+use Rattle.grammar.specs.Sign.{Meaning}
 use Rattle.token.specs.Result.{output}
 use Rattle.sign.specs.Transcription.{otherSet}
 use Rattle.query.specs.Reading.{queryOf, readingOf}
-use Rattle.verdict.specs.Verdict.{verdictIn}
+use Rattle.querygrammar.specs.Query.{Query}
+use Rattle.matching.specs.Meets.{Meets}
+use Rattle.verdict.specs.Verdict.{verdictIn, Reads}
 use Rattle.lines.specs.Lines.{lines, lineOf}
-use Rattle.run.specs.Narrowing.{rising, filled}
-use Rattle.run.specs.Run.{Ended, run, total, told}
+use Rattle.narrowing.specs.Narrowing.{rising, filled}
+use Rattle.narrowing.specs.Run.{Ended, run, total, told}
 use Rattle.entries.specs.Entries.{isDone, entriesOf}
 use Rattle.books.specs.Book.{rewritten}
 use Rattle.dictionary.specs.Opening.{opening, opened}
@@ -47,6 +51,9 @@ ownRefusal query = (readingOf (queryOf query) .number, readingOf (queryOf query)
 
 -- For every dictionary that opens into a list memory, and all queries in order:
 pub record Demand3 : Type 0 where
+  -- a text meets a query exactly when it reads as a sign for which all the query's conditions hold
+  pub meets : (set : Charset) (query text : List ℕ)
+      → (verdictIn set query text .met ≡ true) ↔ ((q : Query) × ((m : Meaning) × (Reads set query text q m × Meets q m)))
   -- the list memory after the run: the entries that meet all the accepted queries, zeros to the line count, then what was there before
   pub ending : (set : Charset) (dict list : List ℕ) → Opens set dict list → (queries : List (List ℕ))
       → runOn set dict list queries .list ≡ filled (length (lines dict)) (meeting set dict queries) (drop (length (lines dict)) list)

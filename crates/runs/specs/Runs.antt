@@ -7,9 +7,9 @@ use Rattle.charset.specs.declared.Charset.{Charset}
 use Rattle.token.specs.Refusal.{textShort}
 use Rattle.token.specs.Result.{Result, refusal, done, inRoom}
 use Rattle.lines.specs.Lines.{lines, ended}
-use Rattle.run.specs.declared.Narrowed.{Narrowed}
-use Rattle.run.specs.Narrowing.{notNarrowed, filled}
-use Rattle.run.specs.Run.{Ended, total}
+use Rattle.narrowing.specs.declared.Narrowed.{Narrowed}
+use Rattle.narrowing.specs.Narrowing.{notNarrowed, filled}
+use Rattle.narrowing.specs.Run.{Ended, total}
 use Rattle.dictionary.specs.Opening.{opening}
 use Rattle.runs.specs.Demand3.{meeting}
 

@@ -2,7 +2,7 @@
 ghost use mathlib.Core.Path.{_≡_};
 ghost use Prim.Native.Nat.{_≤_};
 ghost use Rattle.lines.specs.Lines.{lines};
-ghost use Rattle.run.specs.Run.{nextCount, run, total};
+ghost use Rattle.narrowing.specs.Run.{nextCount, run, total};
 ghost use Rattle.dictionary.specs.Narrowing.{narrowed};
 ghost use Rattle.runs.specs.Runs.{endedAs, ranOn};
 use charset::Charset;
@@ -10,8 +10,8 @@ use dictionary::narrow;
 use lines::walk::count;
 use lines::walk::is_ended;
 use lines::walk::line_end;
-use run::Narrowed;
-use run::not_narrowed;
+use narrowing::Narrowed;
+use narrowing::not_narrowed;
 use token::refusal::DONE;
 use token::refusal::TEXT_SHORT;
 

@@ -14,7 +14,8 @@ use Rattle.token.specs.declared.Written.{Written}
 use Rattle.token.specs.Result.{done, onDone}
 use Rattle.writer.proofs.Answers.{Answers, answers-refused}
 use Rattle.reader.specs.declared.arrays.Head.{Head}
-use Rattle.reader.specs.Signs.{signOf, padded}
+use Rattle.token.specs.Padded.{padded}
+use Rattle.reader.specs.Signs.{signOf}
 use Rattle.reader.specs.Inner.{ReadInto}
 use Rattle.writer.specs.Arrays.{upto, at, symbolAt, meaningIn}
 use Rattle.sign.specs.Transcription.{otherSet, transcription}

@@ -9,7 +9,7 @@ use lib.ListN.{length}
 use native.Mathlib.Omega.{arith}
 use borrow.Author.Tests.{ltb-false}
 use Rattle.format.specs.Format.{choose}
-use Rattle.format.specs.Places.{Outcome, fine, refused, unfinished, reading}
+use Rattle.format.specs.Places.{Outcome, fine, refused, endsShort, reading}
 use Rattle.format.proofs.Reading.{fine-exactly}
 use Rattle.format.proofs.Exact.{Exact}
 use Rattle.format.proofs.Places.{exactly, by-bytes}
@@ -62,7 +62,7 @@ read-go : (set : Charset) (text : List ℕ) (code : ℕ) (o : Outcome ℕ) → r
 read-go set text code (fine c) q e =
     let z : c ≡ code = cc in rw z at (symbol-fine set text c .0 q)
 read-go set text code (refused p) q e = absurd (let z : _≡_ {A = ℕ} 0 1 = cc in omega arith)
-read-go set text code unfinished q e = absurd (let z : _≡_ {A = ℕ} 0 1 = cc in omega arith)
+read-go set text code endsShort q e = absurd (let z : _≡_ {A = ℕ} 0 1 = cc in omega arith)
 
 pub read : (set : Charset) (text : List ℕ) (code : ℕ) → codeOf set text ≡ done code → (code ≤ 62592) × (text ≡ anySymbol set .write code)
 read set text code e =

@@ -4,7 +4,7 @@ use mathlib.Core.Path.{_≡_, sym, ap, _∙_}
 use mathlib.Core.List.{List}
 use lib.ListN.{length}
 use native.Mathlib.Omega.{arith}
-use Rattle.format.specs.Places.{Outcome, fine, refused, unfinished}
+use Rattle.format.specs.Places.{Outcome, fine, refused, endsShort}
 use Rattle.format.specs.Located.{found, locate, ended}
 use Rattle.format.proofs.Delimited.{Fixed}
 use Rattle.format.proofs.Ends.{reading-at}
@@ -38,7 +38,7 @@ module _ (set : Charset) (s : List ℕ) where
 
   pub read-short : tokenAt (anySymbol set) s 0 ≡ Short → record { number = 2; place = length s; code = 0 } ≡ codeRead set s
   unfolding tokenAt
-  read-short e = read-as unfinished (ap (ended (tokens set .unit) (length s)) (told-short (locate (anySymbol set) s 0) e))
+  read-short e = read-as endsShort (ap (ended (tokens set .unit) (length s)) (told-short (locate (anySymbol set) s 0) e))
 
   module _ (v i left : ℕ) (e : tokenAt (anySymbol set) s 0 ≡ Value v) (n : i ≡ tokens set .symbolSize) where
     told : Told (tokens set .symbolSize) (anySymbol set) s 0 v
@@ -57,7 +57,7 @@ module _ (set : Charset) (s : List ℕ) where
     read-over l q = over (refused i) (end-wrong v set (length s) i left inside l q)
 
     pub read-cut : left ≡ leftOver set (length s) i → left ≡ 2 → record { number = 2; place = length s; code = 0 } ≡ codeRead set s
-    read-cut l q = over unfinished (end-short v set (length s) i left inside l q)
+    read-cut l q = over endsShort (end-short v set (length s) i left inside l q)
 
     pub read-fine : left ≡ leftOver set (length s) i → (left ≡ 1 → ⊥) → (left ≡ 2 → ⊥) → record { number = 0; place = 0; code = v } ≡ codeRead set s
     read-fine l p q = over (fine v) (end-fine v set (length s) i left inside l p q)

@@ -4,7 +4,7 @@ use mathlib.Core.Path.{_≡_, refl}
 use mathlib.Core.Bool.{Bool, true, false}
 use native.Mathlib.Omega.{arith}
 use lib.Dec.{lit<}
-use Rattle.format.specs.Places.{Outcome, fine, refused, unfinished}
+use Rattle.format.specs.Places.{Outcome, fine, refused, endsShort}
 use Rattle.token.specs.Result.{Result, refusal, done, onDone, check, andThen, ofOutcome}
 
 pub refusal-done : {A B : Type 0} {a : A} (n p : ℕ) → refusal n p ≡ done a → B
@@ -54,4 +54,4 @@ andThen-counted (done a) next c d n p e = d a n p e
 pub outcome-counted : {A : Type 0} (size : ℕ) (o : Outcome A) → Counted (ofOutcome size o)
 outcome-counted size (fine a) = done-counted a
 outcome-counted size (refused i) = refusal-counted 1 i (lit< tt)
-outcome-counted size unfinished = refusal-counted 2 size (lit< tt)
+outcome-counted size endsShort = refusal-counted 2 size (lit< tt)

@@ -7,7 +7,7 @@ use native.Mathlib.Omega.{arith}
 use types.Run.{OneOf}
 use denote.Enum.Declared.{tagOf}
 use Rattle.format.specs.Format.{Format, sequence, mapped, either}
-use Rattle.format.specs.Located.{Located, found, wrongAt, cut, locate, onFound}
+use Rattle.format.specs.Located.{Located, found, wrongAt, shortHere, locate, onFound}
 use Rattle.format.proofs.Delimited.{Delimited}
 use Rattle.format.proofs.At.{mapped-at, either-second, either-first}
 use Rattle.charset.specs.Bytes.{byte, after}
@@ -66,7 +66,7 @@ module _ (f g : Format ℕ) (from : ℕ → ℕ ⊎ ℕ) (P : ℕ → Type 0) (d
       go : (l : Located ℕ) → told l ≡ told (onFound ofEither (onFound side l))
       go (found v i) = ap Value (sym (same v))
       go (wrongAt p) = refl
-      go cut = refl
+      go shortHere = refl
 
   pub either-this : (r : Token) → r ≡ tokenAt f s at → (r ≡ Wrong at → ⊥) → r ≡ tokenAt whole s at
   unfolding tokenAt

@@ -8,7 +8,7 @@ use native.Mathlib.Omega.{arith}
 use types.Run.{OneOf}
 use denote.Enum.Declared.{tagOf}
 use Rattle.format.specs.Format.{Format, sequence, mapped}
-use Rattle.format.specs.Located.{Located, found, wrongAt, cut, locate, andThen, onFound}
+use Rattle.format.specs.Located.{Located, found, wrongAt, shortHere, locate, andThen, onFound}
 use Rattle.format.proofs.Delimited.{Delimited, Fixed}
 use Rattle.format.proofs.At.{fixed-got, sequence-at, mapped-at}
 use Rattle.token.specs.declared.reading.Token.{Token}
@@ -32,27 +32,27 @@ pub record At (l : Located ℕ) (v : ℕ) : Type 0 where
 pub told-value : (l : Located ℕ) (v : ℕ) → told l ≡ Value v → At l v
 told-value (found a i) v e = let x : a ≡ v = cc in record { next = i; is = ap (λ b. found b i) x }
 told-value (wrongAt p) v e = absurd (let z : _≡_ {A = ℕ} 0 1 = cc in omega arith)
-told-value cut v e = absurd (let z : _≡_ {A = ℕ} 0 1 = cc in omega arith)
+told-value shortHere v e = absurd (let z : _≡_ {A = ℕ} 0 1 = cc in omega arith)
 
 pub told-wrong : (l : Located ℕ) (p : ℕ) → told l ≡ Wrong p → l ≡ wrongAt p
 told-wrong (found a i) p e = absurd (let z : _≡_ {A = ℕ} 0 1 = cc in omega arith)
 told-wrong (wrongAt q) p e = let x : q ≡ p = cc in ap wrongAt x
-told-wrong cut p e = absurd (let z : _≡_ {A = ℕ} 0 1 = cc in omega arith)
+told-wrong shortHere p e = absurd (let z : _≡_ {A = ℕ} 0 1 = cc in omega arith)
 
-pub told-short : (l : Located ℕ) → told l ≡ Short → l ≡ cut
+pub told-short : (l : Located ℕ) → told l ≡ Short → l ≡ shortHere
 told-short (found a i) e = absurd (let z : _≡_ {A = ℕ} 0 1 = cc in omega arith)
 told-short (wrongAt q) e = absurd (let z : _≡_ {A = ℕ} 0 1 = cc in omega arith)
-told-short cut e = refl
+told-short shortHere e = refl
 
 fails-on : (l : Located ℕ) (k : ℕ → ℕ → Located ℕ) → Fails (told l) → told l ≡ told (andThen l k)
 fails-on (found a i) k h = value-fails a h
 fails-on (wrongAt p) k h = refl
-fails-on cut k h = refl
+fails-on shortHere k h = refl
 
 fails-to : (l : Located ℕ) (to : ℕ → ℕ) → Fails (told l) → told l ≡ told (onFound to l)
 fails-to (found a i) to h = value-fails a h
 fails-to (wrongAt p) to h = refl
-fails-to cut to h = refl
+fails-to shortHere to h = refl
 
 -- What a function knows of a value that it was told.
 pub record Told (n : ℕ) (f : Format ℕ) (s : List ℕ) (at v : ℕ) : Type 0 where
@@ -78,9 +78,9 @@ module _ (w n : ℕ) (f : Format ℕ) (g : ℕ → Format ℕ) (to : ℕ × ℕ 
       go : (m : Located ℕ) → onFound to (onFound (λ b. (a, b)) m) ≡ onFound (λ b. to (a, b)) m
       go (found b j) = refl
       go (wrongAt p) = refl
-      go cut = refl
+      go shortHere = refl
   goes-go (wrongAt p) = refl
-  goes-go cut = refl
+  goes-go shortHere = refl
 
   both-at : locate both s at ≡ andThen (locate f s at) λ a i. onFound (λ b. to (a, b)) (locate (g a) s i)
   both-at = mapped-at (sequence f g) to from P s at ∙ ap (onFound to) (sequence-at w f g x s at) ∙ goes-go (locate f s at)
@@ -112,4 +112,4 @@ module _ (w n : ℕ) (f : Format ℕ) (g : ℕ → Format ℕ) (to : ℕ × ℕ 
       go : (l : Located ℕ) → told l ≡ told (onFound (λ b. to (a, b)) l)
       go (found b i) = ap Value (sym (same b))
       go (wrongAt p) = refl
-      go cut = refl
+      go shortHere = refl

@@ -10,7 +10,7 @@ use native.Mathlib.Omega.{arith}
 use borrow.Author.Tests.{lt-ltb, le-ltb, ltb-true, ltb-false}
 use Rattle.format.specs.Format.{value, other, Format, choose, unit}
 use Rattle.format.specs.Numeral.{Range}
-use Rattle.format.specs.Located.{Located, found, wrongAt, cut, located, locate, onFound}
+use Rattle.format.specs.Located.{Located, found, wrongAt, shortHere, located, locate, onFound}
 use Rattle.format.proofs.At.{mapped-at}
 use Rattle.charset.specs.Bytes.{byteOf, byte, scalarOf, utf8, character}
 use Rattle.token.specs.declared.reading.Token.the-variants.{Value, Wrong, Short}
@@ -21,7 +21,7 @@ unfolding tokenAt
 located-is f s at l e = ap told (sym e)
 
 module _ (w : ℕ) (of : List ℕ → ℕ) (to : ℕ → List ℕ) (lo hi : ℕ) (s : List ℕ) (at : ℕ) where
-  unit-cut : 1 ≤ w → length s < at + w → locate (unit w of to lo hi) s at ≡ cut
+  unit-cut : 1 ≤ w → length s < at + w → locate (unit w of to lo hi) s at ≡ shortHere
   unfolding locate
   unit-cut k h = rw (lt-ltb (length (drop at s)) w (omega (arith, length-drop at s)))
 
@@ -51,7 +51,7 @@ module _ (of : ℕ → ℕ) (to : ℕ → List ℕ) (lo hi : ℕ) (s : List ℕ)
   one = unit 1 (byteOf of) to lo hi
 
   pub byte-cut : length s ≤ at → Short ≡ tokenAt one s at
-  byte-cut h = located-is one s at cut (unit-cut 1 (byteOf of) to lo hi s at (omega arith) (omega arith))
+  byte-cut h = located-is one s at shortHere (unit-cut 1 (byteOf of) to lo hi s at (omega arith) (omega arith))
 
   module _ (d : ℕ) (room : at < length s) (e : d ≡ of (getD s at 0)) where
     byte-is : byteOf of (take 1 (drop at s)) ≡ d
@@ -91,7 +91,7 @@ module _ (from lo hi : ℕ) (s : List ℕ) (at : ℕ) where
       (mapped-at code (λ c. c - from) (λ n. from + n) (Range lo hi) s at ∙ ap (onFound (λ c. c - from)) e)
 
   pub character-cut : length s < at + 4 → Short ≡ tokenAt (character from lo hi) s at
-  character-cut h = code-is cut (unit-cut 4 scalarOf utf8 (from + lo) (from + hi) s at (omega arith) h)
+  character-cut h = code-is shortHere (unit-cut 4 scalarOf utf8 (from + lo) (from + hi) s at (omega arith) h)
 
   module _ (c : ℕ) (room : at + 4 ≤ length s) (e : c ≡ scalarOf (getD s at 0 ∷ getD s (at + 1) 0 ∷ getD s (at + 2) 0 ∷ getD s (at + 3) 0 ∷ [])) where
     scalar-is : scalarOf (take 4 (drop at s)) ≡ c

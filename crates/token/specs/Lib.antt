@@ -4,3 +4,4 @@ pub mod Token
 pub mod Symbol
 pub mod Ends
 pub mod Wrote
+pub mod Padded

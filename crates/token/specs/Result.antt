@@ -5,8 +5,8 @@ use mathlib.Core.Bool.{Bool}
 use lib.Dec.{ltb}
 use lib.ListN.{length, drop}
 use Rattle.format.specs.Format.{Format, choose}
-use Rattle.format.specs.Places.{Outcome, fine, refused, unfinished}
-use Rattle.format.specs.Located.{Located, found, wrongAt, cut, locate}
+use Rattle.format.specs.Places.{Outcome, fine, refused, endsShort}
+use Rattle.format.specs.Located.{Located, found, wrongAt, shortHere, locate}
 use Rattle.token.specs.declared.Written.{Written}
 use Rattle.token.specs.Refusal.{textWrong, textShort, roomShort}
 
@@ -32,13 +32,13 @@ andThen (done a) next = next a
 abbrev pub ofOutcome : {A : Type 0} → ℕ → Outcome A → Result A
 ofOutcome size (fine a) = done a
 ofOutcome size (refused p) = refusal textWrong p
-ofOutcome size unfinished = refusal textShort size
+ofOutcome size endsShort = refusal textShort size
 
 -- the same of a part of the text: its value, and the offset after it
 abbrev pub ofLocated : {A : Type 0} → ℕ → Located A → Result (A × ℕ)
 ofLocated size (found a next) = done (a, next)
 ofLocated size (wrongAt p) = refusal textWrong p
-ofLocated size cut = refusal textShort size
+ofLocated size shortHere = refusal textShort size
 
 -- what a format comes to at an offset of a text
 abbrev pub resultAt : {A : Type 0} → Format A → List ℕ → ℕ → Result (A × ℕ)

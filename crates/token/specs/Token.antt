@@ -4,7 +4,7 @@ use mathlib.Core.Path.{_≡_}
 use mathlib.Core.List.{List}
 use lib.ListN.{length}
 use Rattle.format.specs.Format.{Format}
-use Rattle.format.specs.Located.{Located, found, wrongAt, cut, locate}
+use Rattle.format.specs.Located.{Located, found, wrongAt, shortHere, locate}
 use Rattle.token.specs.declared.reading.Token.{Token}
 use Rattle.token.specs.declared.reading.Token.the-variants.{Value, Wrong, Short}
 use Rattle.token.specs.Refusal.{textWrong, textShort}
@@ -19,7 +19,7 @@ tokenResult size Short = refusal textShort size
 abbrev pub told : Located ℕ → Token
 told (found v next) = Value v
 told (wrongAt p) = Wrong p
-told cut = Short
+told shortHere = Short
 
 unfoldable pub tokenAt : Format ℕ → List ℕ → ℕ → Token
 tokenAt f s at = told (locate f s at)

@@ -7,7 +7,8 @@ use Rattle.charset.specs.declared.Charset.{Charset}
 use Rattle.grammar.specs.Sign.{Meaning}
 use Rattle.token.specs.Result.{Result, refusal, done}
 use Rattle.reader.specs.declared.arrays.Head.{Head as SignHead}
-use Rattle.reader.specs.Signs.{signOf, padded}
+use Rattle.token.specs.Padded.{padded}
+use Rattle.reader.specs.Signs.{signOf}
 use Rattle.reader.specs.Inner.{ReadInto as SignInto}
 use Rattle.reader.proofs.Limits.{Known as SignKnown, not-read as sign-refused, was-read as sign-read, known as sign-known}
 use Rattle.writer.specs.Arrays.{upto, at, symbolAt}

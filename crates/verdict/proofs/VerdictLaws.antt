@@ -7,7 +7,8 @@ use native.Mathlib.Omega.{arith}
 use Rattle.charset.specs.declared.Charset.{Charset}
 use Rattle.grammar.specs.Sign.{Meaning}
 use Rattle.token.specs.Result.{Result, refusal, done}
-use Rattle.reader.specs.Signs.{padded, signOf}
+use Rattle.token.specs.Padded.{padded}
+use Rattle.reader.specs.Signs.{signOf}
 use Rattle.reader.proofs.Limits.{sign-counted}
 use Rattle.sign.proofs.Transcriptions.{transcription-laws}
 use Rattle.querygrammar.specs.Query.{Query}

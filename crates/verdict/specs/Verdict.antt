@@ -7,7 +7,8 @@ use mathlib.Core.Logic.{_↔_}
 use Rattle.charset.specs.declared.Charset.{Charset}
 use Rattle.grammar.specs.Sign.{Meaning}
 use Rattle.token.specs.Result.{Result, refusal, done}
-use Rattle.reader.specs.Signs.{padded, zeros, signOf}
+use Rattle.token.specs.Padded.{padded, zeros}
+use Rattle.reader.specs.Signs.{signOf}
 use Rattle.sign.specs.Transcription.{otherSet, transcription}
 use Rattle.querygrammar.specs.Query.{Query}
 use Rattle.query.specs.Reading.{queryOf}

@@ -9,7 +9,7 @@ use Rattle.charset.specs.declared.Charset.{Charset}
 use Rattle.charset.specs.declared.Charset.the-variants.{Fsw, Swu}
 use Rattle.charset.specs.Tokens.{tokens, lastWriting, lastLocation}
 use Rattle.grammar.specs.Sign.{Spatial, Meaning, Valid, point, prefixSymbol, spatial, ofSpatial, signText}
-use Rattle.grammar.specs.SignLaws.{headSize, spatialSize, prefixSize, signSize}
+use Rattle.grammar.specs.Size.{leadSize, spatialSize, prefixSize, signSize}
 use Rattle.grammar.proofs.SignSize.{sign-size}
 use Rattle.token.specs.Symbol.{anySymbol}
 use Rattle.token.specs.Wrote.{Wrote}
@@ -58,11 +58,11 @@ pub prefix-size-some : (set : Charset) (n : ℕ) → 0 < n → prefixSize set n 
 prefix-size-some set zero h = absurd (omega arith)
 prefix-size-some set (suc n) h = refl
 
-pub size-some : (set : Charset) (p n : ℕ) {r : ℕ} → 0 < p → r ≡ tokens set .markerSize + p * tokens set .symbolSize → r + (headSize set + n * spatialSize set) ≡ signSize set p n
-size-some set p n h e = ap (λ k. k + (headSize set + n * spatialSize set)) (e ∙ sym (prefix-size-some set p h))
+pub size-some : (set : Charset) (p n : ℕ) {r : ℕ} → 0 < p → r ≡ tokens set .markerSize + p * tokens set .symbolSize → r + (leadSize set + n * spatialSize set) ≡ signSize set p n
+size-some set p n h e = ap (λ k. k + (leadSize set + n * spatialSize set)) (e ∙ sym (prefix-size-some set p h))
 
-pub size-none : (set : Charset) (p n : ℕ) {r : ℕ} → p ≤ 0 → r ≡ 0 → r + (headSize set + n * spatialSize set) ≡ signSize set p n
-size-none set zero n h e = ap (λ k. k + (headSize set + n * spatialSize set)) e
+pub size-none : (set : Charset) (p n : ℕ) {r : ℕ} → p ≤ 0 → r ≡ 0 → r + (leadSize set + n * spatialSize set) ≡ signSize set p n
+size-none set zero n h e = ap (λ k. k + (leadSize set + n * spatialSize set)) e
 size-none set (suc p) n h e = absurd (omega arith)
 
 -- A token, or several, written as the part of a sign that they are.

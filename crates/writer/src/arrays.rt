@@ -7,7 +7,7 @@ ghost use Rattle.charset.specs.Tokens.{tokens, lastCode, lastLocation};
 ghost use Rattle.format.specs.Format.{All};
 ghost use Rattle.format.specs.Numeral.{Range};
 ghost use Rattle.grammar.specs.Sign.{Valid, ValidSymbol, Number, point, signText};
-ghost use Rattle.grammar.specs.SignLaws.{spatialSize, prefixSize, signSize};
+ghost use Rattle.grammar.specs.Size.{spatialSize, prefixSize, signSize};
 ghost use Rattle.token.specs.Result.{done, written, output};
 ghost use Rattle.token.specs.Wrote.{Wrote};
 ghost use Rattle.writer.specs.Arrays.{upto, at as valueAt, symbolAt, meaningIn, prefixText, symbolsText};

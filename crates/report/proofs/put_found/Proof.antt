@@ -3,7 +3,7 @@ use lib.ListN.{length}
 use borrow.Author.Needs.{needs}
 use Rattle.charset.specs.Bytes.{ascii}
 use Rattle.writer.proofs.Writes.{wrote-more}
-use Rattle.text.proofs.TextWrites.{line-short}
+use Rattle.keylines.proofs.TextWrites.{line-short}
 use Rattle.report.specs.Report.{foundText}
 use Rattle.report.proofs.put_found.Statement.{statement}
 use Rattle.report.proofs.put_found.Tie as tie

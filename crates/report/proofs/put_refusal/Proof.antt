@@ -2,7 +2,7 @@ use native.Mathlib.Omega.{arith}
 use borrow.Author.Needs.{needs}
 use Rattle.charset.specs.Bytes.{ascii}
 use Rattle.writer.proofs.Writes.{wrote-more}
-use Rattle.text.proofs.TextWrites.{line-short}
+use Rattle.keylines.proofs.TextWrites.{line-short}
 use Rattle.report.specs.Report.{refusalText}
 use Rattle.report.proofs.put_refusal.Statement.{statement}
 use Rattle.report.proofs.put_refusal.Tie as tie

@@ -5,7 +5,7 @@ use lib.ListN.{length}
 use borrow.Author.Needs.{needs}
 use Rattle.lines.specs.Lines.{lines}
 use Rattle.lines.proofs.Starts.{Line, start-within}
-use Rattle.run.specs.Run.{run}
+use Rattle.narrowing.specs.Run.{run}
 use Rattle.dictionary.specs.Narrowing.{narrowed}
 use Rattle.runs.proofs.Running.{Running, running-start, running-end, running-line, running-dropped, running-more}
 use Rattle.runs.proofs.narrow_each.Statement.{statement}

@@ -4,7 +4,7 @@ use native.Mathlib.Omega.{arith}
 use borrow.Author.Needs.{needs}
 use Rattle.lines.specs.Lines.{lineStart}
 use Rattle.lines.proofs.Starts.{Line, start-first, start-within, line-at}
-use Rattle.run.specs.Narrowing.{entriesFrom}
+use Rattle.narrowing.specs.Narrowing.{entriesFrom}
 use Rattle.entries.specs.Entries.{firstWrong}
 use Rattle.entries.proofs.Lines.{is-sign, no-sign, wrong-start, wrong-here, wrong-later, wrong-none}
 use Rattle.entries.proofs.reading.first_wrong.Statement.{statement}
