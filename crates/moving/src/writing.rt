@@ -9,7 +9,13 @@ ghost use Rattle.moving.specs.Moves.{movedSign, toMiddle};
 ghost use Rattle.moving.specs.Inner.{valueOf, Small, Stands, movedOrZero, movedAxis, Coded};
 use charset::Charset;
 use token::Written;
+use token::reading::GREATEST_NUMBER;
+use token::reading::LEAST_NUMBER;
 use token::refusal::NUMBER_OUTSIDE;
+
+const LEAST: u32 = LEAST_NUMBER as u32;
+
+const GREATEST: u32 = GREATEST_NUMBER as u32;
 
 // A whole number: what is added, and what is taken away.
 pub struct Amount {
@@ -52,11 +58,11 @@ impl Amount {
         let up = self.up;
         let down = self.down;
         let raised = n as u32 + up;
-        if raised < down + 250 {
+        if raised < down + LEAST {
             return 0;
         }
         let left = raised - down;
-        if 749 < left {
+        if GREATEST < left {
             return 0;
         }
         left as u16

@@ -8,6 +8,7 @@ ghost use Rattle.querygrammar.specs.Query.{keyItem, rangeItem, itemOf, soughtOf
 ghost use Rattle.queryitem.specs.Numbers.{turnOf, bare, numbersOf};
 ghost use Rattle.queryitem.specs.Pieces.{given, openAt, failedAs, pieceAt, placed, sort, resultOf, soughtAt};
 use charset::Charset;
+use token::reading::LAST_PUNCTUATION;
 use token::reading::Token;
 
 // An item as five numbers: codes of lo to hi, whose remainder by 16 is turn unless turn is 16,
@@ -109,7 +110,7 @@ fn key_at(s: &[u8], at: usize) -> Piece
     requires { ⌜ at + 32 ≤ 2 ^ 64 ⌝ }
     ensures { λ r. ⌜ r ≡ pieceAt keyTail (λ k. bare (itemOf (inl k))) (now (s .entry)) at ⌝ }
 {
-    let base = token::reading::three_at(s, at, 256, 16, 0x100, 0x38b);
+    let base = token::reading::three_at(s, at, 256, 16, 0x100, LAST_PUNCTUATION);
     let Token::Value(b) = base else {
         return failed(base);
     };
@@ -133,7 +134,7 @@ fn range_at(s: &[u8], at: usize) -> Piece
     let Token::Value(_) = letter else {
         return failed(letter);
     };
-    let first = token::reading::three_at(s, at + 1, 256, 16, 0x100, 0x38b);
+    let first = token::reading::three_at(s, at + 1, 256, 16, 0x100, LAST_PUNCTUATION);
     let Token::Value(from) = first else {
         return failed(first);
     };
@@ -141,7 +142,7 @@ fn range_at(s: &[u8], at: usize) -> Piece
     let Token::Value(_) = until else {
         return failed(until);
     };
-    let last = token::reading::three_at(s, at + 5, 256, 16, 0x100, 0x38b);
+    let last = token::reading::three_at(s, at + 5, 256, 16, 0x100, LAST_PUNCTUATION);
     let Token::Value(to) = last else {
         return failed(last);
     };

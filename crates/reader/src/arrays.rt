@@ -14,7 +14,7 @@ use token::refusal::TEXT_SHORT;
 use token::refusal::TEXT_WRONG;
 
 // A store where there is room for it.
-pub fn put32(a: &mut [u16; 32], n: usize, v: u16)
+fn put32(a: &mut [u16; 32], n: usize, v: u16)
     requires { ⌜ length (now a) ≡ 32 ⌝ }
     ensures { λ r. ⌜ now (a .exit) ≡ setAt (now (a .entry)) n v ⌝ }
 {

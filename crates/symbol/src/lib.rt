@@ -4,6 +4,7 @@ ghost use Rattle.token.specs.Result.{written, output};
 ghost use Rattle.symbol.specs.Codes.{codeRead, codeText};
 use charset::Charset;
 use token::Written;
+use token::reading::LAST_PUNCTUATION;
 use token::reading::Token;
 use token::reading::left_over;
 use token::reading::symbol_or_null_at;
@@ -14,6 +15,9 @@ use token::refusal::ROOM_SHORT;
 use token::refusal::TEXT_SHORT;
 use token::refusal::TEXT_WRONG;
 use writer::tokens::put_symbol;
+
+// The code of the last symbol, S38b5f.
+const LAST_CODE: u64 = 62592;
 
 // What reading a key or a character answers: the symbol's code, 0 for null.
 pub struct Code {
@@ -36,7 +40,7 @@ fn code_is(number: u8, place: usize, code: u16) -> Code
 fn read_code(set: Charset, s: &[u8]) -> Code
     ensures { λ r. ⌜ r ≡ codeRead set (now (s .entry)) ⌝ }
 {
-    match symbol_or_null_at(set, s, 0, 0x38b) {
+    match symbol_or_null_at(set, s, 0, LAST_PUNCTUATION) {
         Token::Value(code) => {
             let size = symbol_size(set);
             let left = left_over(set, s.len(), size);
@@ -58,7 +62,7 @@ fn write_code(set: Charset, code: u64, out: &mut [u8]) -> Written
     ensures answer { λ r. ⌜ r ≡ written (now (out .entry)) (codeText set code) ⌝ }
     ensures memory { λ r. ⌜ now (out .exit) ≡ output (now (out .entry)) (codeText set code) ⌝ }
 {
-    if 62592 < code {
+    if LAST_CODE < code {
         return Written {
             number: CODE_WRONG,
             place: 0,
