@@ -15,10 +15,10 @@ use Rattle.grammar.specs.Sign.{Meaning}
 use Rattle.token.specs.Result.{Result, refusal, done}
 use Rattle.reader.specs.Signs.{signOf}
 use Rattle.reader.proofs.Limits.{sign-counted}
-use Rattle.matching.specs.declared.Verdict.{Verdict}
+use Rattle.verdict.specs.declared.judging.Meeting.{Meeting}
 use Rattle.matching.specs.Meets.{Judgement, unmet, met, answered}
 use Rattle.matching.specs.Inner.{verdictWords}
-use Rattle.verdict.specs.Inner.{verdictOnWords}
+use Rattle.verdict.specs.Inner.{verdictOnWords, meetingOf}
 use Rattle.lines.specs.Lines.{lines as linesOf, firstLine, lineOf, lineStart}
 use Rattle.lines.proofs.Starts.{Line, start-first, start-within, line-at}
 use Rattle.narrowing.specs.Narrowing.{firstBad}
@@ -28,7 +28,7 @@ use Rattle.entries.specs.Entries.{isDone, readable, firstWrong}
 use Rattle.entries.specs.Judging.{meetsWords, flagBy, lineFlag, entryFlag}
 
 -- THE FLAG OF A VERDICT
-module _ (v : Verdict) where
+module _ (v : Meeting) where
   pub flag-wrong : (v .number ≡ 0 → ⊥) → noSignFlag ≡ flagBy v
   unfolding flagBy
   flag-wrong z = rw (ne-eqb (v .number) 0 z)
@@ -44,17 +44,17 @@ module _ (v : Verdict) where
 
 -- it says whether the line is a sign, and whether that meets the query
 module _ (words : List ℕ) (set : Charset) (text : List ℕ) where
-  answered-sign : (j : Judgement) → not (eqb (flagBy (answered j)) noSignFlag) ≡ true
+  answered-sign : (j : Judgement) → not (eqb (flagBy (meetingOf (answered j))) noSignFlag) ≡ true
   unfolding flagBy
   answered-sign (unmet n) = refl
   answered-sign (met ws) = refl
 
-  answered-met : (j : Judgement) → eqb (flagBy (answered j)) metFlag ≡ answered j .met
+  answered-met : (j : Judgement) → eqb (flagBy (meetingOf (answered j))) metFlag ≡ answered j .met
   unfolding flagBy
   answered-met (unmet n) = refl
   answered-met (met ws) = refl
 
-  flag-sign-by : (r : Result Meaning) → signOf set text ≡ r → not (eqb (flagBy (verdictOnWords words r)) noSignFlag) ≡ isDone r
+  flag-sign-by : (r : Result Meaning) → signOf set text ≡ r → not (eqb (flagBy (meetingOf (verdictOnWords words r))) noSignFlag) ≡ isDone r
   unfolding flagBy verdictOnWords
   flag-sign-by (refusal number place) e =
       let n = sign-counted set text number place e in
@@ -64,7 +64,7 @@ module _ (words : List ℕ) (set : Charset) (text : List ℕ) where
   flag-sign : not (eqb (lineFlag set words text) noSignFlag) ≡ isDone (signOf set text)
   flag-sign = flag-sign-by (signOf set text) refl
 
-  flag-meets-by : (r : Result Meaning) → signOf set text ≡ r → eqb (flagBy (verdictOnWords words r)) metFlag ≡ verdictOnWords words r .met
+  flag-meets-by : (r : Result Meaning) → signOf set text ≡ r → eqb (flagBy (meetingOf (verdictOnWords words r))) metFlag ≡ verdictOnWords words r .met
   unfolding flagBy verdictOnWords
   flag-meets-by (refusal number place) e =
       let n = sign-counted set text number place e in

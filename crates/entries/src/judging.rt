@@ -14,13 +14,13 @@ use list::marks::LISTED;
 use list::marks::MET;
 use list::marks::NO_SIGN;
 use list::marks::UNLISTED;
-use matching::Verdict;
 use queryitem::words::WORDS;
 use token::refusal::DONE;
-use verdict::judging::judge_text;
+use verdict::judging::Meeting;
+use verdict::judging::meets_text;
 
 // The flag of a listed entry, by the verdict on its line.
-fn flag_by(v: Verdict) -> u8
+fn flag_by(v: Meeting) -> u8
     ensures { λ r. ⌜ r ≡ flagBy v ⌝ }
 {
     let number = v.number;
@@ -48,7 +48,7 @@ fn judge_line<'a>(
     if flags[e] == UNLISTED {
         return;
     }
-    let flag = flag_by(judge_text(set, line, words));
+    let flag = flag_by(meets_text(set, line, words));
     flags[e] = flag;
 }
 

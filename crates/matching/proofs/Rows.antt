@@ -12,7 +12,8 @@ use Rattle.grammar.specs.Sign.{Spatial}
 use Rattle.token.specs.Padded.{zeros}
 use Rattle.writer.specs.Arrays.{upto, at as valueAt}
 use Rattle.matching.specs.declared.Verdict.{Verdict}
-use Rattle.matching.specs.Meets.{firstFrom, unmet, judged, answered}
+use Rattle.matching.specs.Meets.{firstFrom, unmet, judged, isMet, answered}
+use Rattle.matching.proofs.Rightness.{answered-met}
 use Rattle.queryitem.specs.Words.{wordCount}
 use Rattle.matching.proofs.Loops.{Passed, passed-none, passed-more, match-short, match-not, match-all, Judging, judging-start, judging-on, judged-not, judged-all, held-all}
 use Rattle.matching.specs.Inner.{word, fitsAt, servesAt, after, offset, Laid, afterRows, prefixWords, afterPrefix, judgedWords, verdictWords}
@@ -118,6 +119,13 @@ module _ (words : List ℕ) (symbols : List Spatial) (n : ℕ) where
         (λ i. record { number = 0; place = 0; met = true; unmet = 0; witnesses = held-all (witnessAt words symbols) (rowOf words) n j out (v .judging) h i })
         ∙ ap answered (judged-all (witnessAt words symbols) (rowOf words) n j out (v .judging) h ∙ ap (λ n. judged (map (witnessAt words symbols) (upto (rowOf words) n))) c)
 
+    -- the same without the witnesses
+    pub meets-not : n ≡ word words 2 → j < n → (w : ℕ) → w ≡ firstFrom 1 (servesAt words i (word words 3)) symbols → w ≡ 0 → false ≡ isMet (judgedWords words symbols)
+    meets-not c h w e z = ap (λ r. r .met) (rows-not c h w e z (answered (unmet (j + 1))) refl) ∙ answered-met (judgedWords words symbols)
+
+    pub meets-all : n ≡ word words 2 → n ≤ j → true ≡ isMet (judgedWords words symbols)
+    meets-all c h = ap (λ r. r .met) (rows-all c h) ∙ answered-met (judgedWords words symbols)
+
 -- THE VERDICT
 
 module _ (words codes : List ℕ) (symbols : List Spatial) (at : ℕ) (e : at ≡ afterPrefix words codes) where
@@ -144,3 +152,12 @@ module _ (words codes : List ℕ) (symbols : List Spatial) (at : ℕ) (e : at �
   pub verdict-rows : (at ≡ 0 → ⊥) → (r : Verdict) → r ≡ answered (judgedWords words symbols) → r ≡ answered (verdictWords words codes symbols)
   unfolding verdictWords afterPrefix
   verdict-rows n r q = q ∙ ap (λ t. answered (choose t (judgedWords words symbols) (unmet 0))) (sym (prefix-on (prefixWords words codes) e n .0))
+
+  pub met-not : at ≡ 0 → false ≡ isMet (verdictWords words codes symbols)
+  met-not z = ap (λ r. r .met) (verdict-not z (answered (unmet 0)) refl) ∙ answered-met (verdictWords words codes symbols)
+
+  pub met-rows : (at ≡ 0 → ⊥) → (r : Bool) → r ≡ isMet (judgedWords words symbols) → r ≡ isMet (verdictWords words codes symbols)
+  met-rows n r q =
+      q ∙ sym (answered-met (judgedWords words symbols))
+      ∙ ap (λ r. r .met) (verdict-rows n (answered (judgedWords words symbols)) refl)
+      ∙ answered-met (verdictWords words codes symbols)

@@ -2,7 +2,7 @@
 use Prim.Native.Nat.{ℕ, zero, suc, _+_, _-_, _*_, _%_, _≤_, _<_}
 use mathlib.Core.Path.{_≡_, refl, sym, ap, _∙_}
 use mathlib.Core.List.{List}
-use mathlib.Core.Bool.{Bool, true, false, not, _||_}
+use mathlib.Core.Bool.{Bool, true, false, not, _&&_, _||_}
 use lib.Dec.{leb, eqb}
 use native.Mathlib.Omega.{arith}
 use borrow.Author.Tests.{le-leb, lt-leb, eq-eqb, ne-eqb, not-true, not-false}
@@ -11,22 +11,36 @@ use Rattle.queryitem.specs.Words.{wordCount}
 use Rattle.matching.specs.Meets.{within}
 use Rattle.matching.specs.Inner.{word, fitsNumbers, fitsOne, fitsRow, fitsAt, servesAt}
 
-module _ (lo hi turn code : ℕ) where
-  pub fits-below : code < lo → false ≡ fitsNumbers lo hi turn code
-  unfolding fitsNumbers
-  fits-below h = rw (lt-leb lo code h)
+and-in : (a b : Bool) → a && b ≡ a && (b && true)
+and-in true true = refl
+and-in true false = refl
+and-in false b = refl
 
-  pub fits-above : lo ≤ code → hi < code → false ≡ fitsNumbers lo hi turn code
-  unfolding fitsNumbers
-  fits-above l h = rw (le-leb lo code l, lt-leb code hi h)
+and-out : (a b : Bool) → false ≡ a && (b && false)
+and-out true true = refl
+and-out true false = refl
+and-out false b = refl
 
-  pub fits-any : lo ≤ code → code ≤ hi → turn ≡ 16 → true ≡ fitsNumbers lo hi turn code
-  unfolding fitsNumbers
-  fits-any l h t = rw (le-leb lo code l, le-leb code hi h, eq-eqb turn 16 t)
+module _ (lo hi code : ℕ) where
+  pub inside-below : code < lo → false ≡ leb lo code && leb code hi
+  inside-below h = rw (lt-leb lo code h)
 
-  pub fits-turn : lo ≤ code → code ≤ hi → (turn ≡ 16 → ⊥) → eqb (code % 16) turn ≡ fitsNumbers lo hi turn code
-  unfolding fitsNumbers
-  fits-turn l h t = rw (le-leb lo code l, le-leb code hi h, ne-eqb turn 16 t)
+  pub inside-rest : lo ≤ code → leb code hi ≡ leb lo code && leb code hi
+  inside-rest h = rw (le-leb lo code h)
+
+  module _ (turn : ℕ) where
+    pub fits-any : turn ≡ 16 → (r : Bool) → r ≡ leb lo code && leb code hi → r ≡ fitsNumbers lo hi turn code
+    unfolding fitsNumbers
+    fits-any t r e = rw (e, eq-eqb turn 16 t) (and-in (leb lo code) (leb code hi))
+
+    module _ (t : turn ≡ 16 → ⊥) where
+      pub fits-other : (code % 16 ≡ turn → ⊥) → false ≡ fitsNumbers lo hi turn code
+      unfolding fitsNumbers
+      fits-other d = rw (ne-eqb turn 16 t, ne-eqb (code % 16) turn d) (and-out (leb lo code) (leb code hi))
+
+      pub fits-turn : code % 16 ≡ turn → (r : Bool) → r ≡ leb lo code && leb code hi → r ≡ fitsNumbers lo hi turn code
+      unfolding fitsNumbers
+      fits-turn d r e = rw (e, ne-eqb turn 16 t, eq-eqb (code % 16) turn d) (and-in (leb lo code) (leb code hi))
 
 module _ (variance a b : ℕ) where
   pub near-below : b + variance < a → false ≡ within variance a b

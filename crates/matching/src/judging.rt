@@ -1,29 +1,39 @@
 // Judging a query that lies in words and a sign that lies in arrays.
 ghost use mathlib.Core.Path.{_≡_};
+ghost use mathlib.Core.Bool.{_&&_};
+ghost use lib.Dec.{leb};
 ghost use Prim.Native.Nat.{_+_, _*_, _≤_};
 ghost use Rattle.writer.specs.Arrays.{upto, at as valueAt, symbolAt};
 ghost use Rattle.queryitem.specs.Words.{wordCount};
-ghost use Rattle.matching.specs.Meets.{within, firstFrom, unmet as unmetAt, answered};
+ghost use Rattle.matching.specs.Meets.{within, firstFrom, unmet as unmetAt, answered, isMet};
 ghost use Rattle.matching.specs.Inner.{word, fitsNumbers, fitsOne, fitsRow, fitsAt, servesAt, after, offset, Laid, afterRows, afterPrefix, judgedWords, verdictWords};
 use crate::Verdict;
 use queryitem::words::FIRST_ROW;
 use queryitem::words::PRESENT;
 use queryitem::words::WORDS;
 
-// Whether a code is one of lo to hi, with the remainder turn unless turn is 16.
-fn fits(lo: u16, hi: u16, turn: u16, code: u16) -> bool
-    ensures { λ r. ⌜ r ≡ fitsNumbers lo hi turn code ⌝ }
+// Whether a code is one of lo to hi.
+fn is_inside(lo: u16, hi: u16, code: u16) -> bool
+    ensures { λ r. ⌜ r ≡ leb lo code && leb code hi ⌝ }
 {
     if code < lo {
         return false;
     }
-    if hi < code {
+    code <= hi
+}
+
+// Whether a code is one of lo to hi, with the remainder turn unless turn is 16. The remainder is asked first: it is seldom the
+// one sought, where a code lies below lo as often as not, which no processor can foresee.
+fn fits(lo: u16, hi: u16, turn: u16, code: u16) -> bool
+    ensures { λ r. ⌜ r ≡ fitsNumbers lo hi turn code ⌝ }
+{
+    if turn == 16 {
+        return is_inside(lo, hi, code);
+    }
+    if code % 16 != turn {
         return false;
     }
-    if turn == 16 {
-        return true;
-    }
-    code % 16 == turn
+    is_inside(lo, hi, code)
 }
 
 // Whether two numbers differ by at most the variance.
@@ -226,4 +236,51 @@ pub fn judge<'a>(
         return unmet(0);
     }
     judge_rows(words, at, k, codes, xs, ys)
+}
+
+// Whether every signbox item, whose rows start at an offset, is served: the verdict without its witnesses.
+fn meets_rows<'a>(
+    words: &'a [u16; WORDS],
+    at: usize,
+    k: usize,
+    codes: &'a [u16; 64],
+    xs: &'a [u16; 64],
+    ys: &'a [u16; 64],
+) -> bool
+    requires { ⌜ (Laid (now words)) × (at ≡ offset (now words) (word (now words) 1)) × (k ≤ 64) ⌝ }
+    ensures { λ r. ⌜ r ≡ isMet (judgedWords (now (words .entry)) (upto (symbolAt (now (codes .entry)) (now (xs .entry)) (now (ys .entry))) k)) ⌝ }
+{
+    let n = words[2] as usize;
+    let variance = words[3];
+    let mut i = at;
+    let mut j: usize = 0;
+    while j < n {
+        let found = first_serving(words, i, variance, k, codes, xs, ys);
+        if found == 0 {
+            return false;
+        }
+        i = next_row(words, i);
+        j += 1;
+    }
+    true
+}
+
+// Whether a sign (p prefix symbols, k signbox symbols) meets a query that lies in words.
+pub fn meets<'a>(
+    words: &'a [u16; WORDS],
+    p: usize,
+    k: usize,
+    prefix: &'a [u16; 32],
+    codes: &'a [u16; 64],
+    xs: &'a [u16; 64],
+    ys: &'a [u16; 64],
+) -> bool
+    requires { ⌜ (Laid (now words)) × (p ≤ 32) × (k ≤ 64) ⌝ }
+    ensures { λ r. ⌜ r ≡ isMet (verdictWords (now (words .entry)) (upto (valueAt (now (prefix .entry))) p) (upto (symbolAt (now (codes .entry)) (now (xs .entry)) (now (ys .entry))) k)) ⌝ }
+{
+    let at = after_prefix(words, p, prefix);
+    if at == 0 {
+        return false;
+    }
+    meets_rows(words, at, k, codes, xs, ys)
 }

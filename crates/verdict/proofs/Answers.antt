@@ -1,7 +1,8 @@
 -- From a query that was read into words and a sign that was read into arrays to the verdict: one law for each return.
 use Prim.Native.Nat.{ℕ, _≤_}
-use mathlib.Core.Path.{_≡_, sym, ap, _∙_}
+use mathlib.Core.Path.{_≡_, refl, sym, ap, _∙_}
 use mathlib.Core.List.{List}
+use mathlib.Core.Bool.{Bool, false}
 use native.Mathlib.Omega.{arith}
 use Rattle.charset.specs.declared.Charset.{Charset}
 use Rattle.grammar.specs.Sign.{Meaning}
@@ -21,11 +22,15 @@ use Rattle.query.specs.Inner.{ReadInto}
 use Rattle.query.proofs.Answers.{Known, not-read, was-read, known}
 use Rattle.query.proofs.Accepted.{query-accepted}
 use Rattle.matching.specs.declared.Verdict.{Verdict}
-use Rattle.matching.specs.Meets.{answered}
+use Rattle.matching.specs.Meets.{Judgement, unmet, met, isMet, answered}
 use Rattle.matching.specs.Inner.{Laid, verdictWords}
 use Rattle.matching.proofs.WordsLaws.{words-laws}
 use Rattle.verdict.specs.Verdict.{refusedAs, verdictOn, verdictBy, verdictIn}
-use Rattle.verdict.specs.Inner.{verdictOnWords}
+use Rattle.verdict.specs.Inner.{verdictOnWords, meetingOf}
+
+answered-meeting : (j : Judgement) → record { number = 0; met = isMet j } ≡ meetingOf (answered j)
+answered-meeting (unmet n) = refl
+answered-meeting (met ws) = refl
 
 -- THE SIGN IN ARRAYS
 
@@ -47,6 +52,17 @@ module _ (set : Charset) (text : List ℕ) (h : SignHead) (array codes xs ys : L
   text-judged r z e =
       let l = lies set text h array codes xs ys v z in
       e ∙ ap (λ m. answered (verdictWords words (m .prefix) (m .symbols))) (l .same) ∙ ap (verdictOnWords words) (sym (l .reads))
+
+  -- the same without place, unmet condition and witnesses
+  pub meeting-refused : (h .number ≡ 0 → ⊥) → record { number = h .number; met = false } ≡ meetingOf (verdictOnWords words (signOf set text))
+  meeting-refused z = ap meetingOf (text-refused (refusedAs (h .number) (h .place)) z refl)
+
+  pub meeting-judged : h .number ≡ 0 → (b : Bool)
+      → b ≡ isMet (verdictWords words (upto (at array) (h .«prefix_count»)) (upto (symbolAt codes xs ys) (h .«symbol_count»)))
+      → record { number = 0; met = b } ≡ meetingOf (verdictOnWords words (signOf set text))
+  meeting-judged z b e =
+      let v = verdictWords words (upto (at array) (h .«prefix_count»)) (upto (symbolAt codes xs ys) (h .«symbol_count»)) in
+      (λ i. record { number = 0; met = e i }) ∙ answered-meeting v ∙ ap meetingOf (text-judged (answered v) z refl)
 
 -- THE QUERY IN WORDS
 

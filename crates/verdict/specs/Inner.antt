@@ -1,4 +1,4 @@
--- What the inner function of the verdict promises of a query that lies in lent words.
+-- What the inner functions of the verdict promise of a query that lies in lent words.
 use Prim.Native.Nat.{ℕ}
 use mathlib.Core.List.{List}
 use Rattle.grammar.specs.Sign.{Meaning}
@@ -6,9 +6,14 @@ use Rattle.token.specs.Result.{Result, refusal, done}
 use Rattle.matching.specs.declared.Verdict.{Verdict}
 use Rattle.matching.specs.Meets.{answered}
 use Rattle.matching.specs.Inner.{verdictWords}
+use Rattle.verdict.specs.declared.judging.Meeting.{Meeting}
 use Rattle.verdict.specs.Verdict.{refusedAs}
 
 -- the verdict of words on what a text says as a sign
 unfoldable pub verdictOnWords : List ℕ → Result Meaning → Verdict
 verdictOnWords words (refusal number place) = refusedAs number place
 verdictOnWords words (done m) = answered (verdictWords words (m .prefix) (m .symbols))
+
+-- its number, and whether the query is met
+abbrev pub meetingOf : Verdict → Meeting
+meetingOf v = record { number = v .number; met = v .met }

@@ -3,7 +3,7 @@ ghost use mathlib.Core.Path.{_≡_};
 ghost use Rattle.reader.specs.Signs.{signOf};
 ghost use Rattle.matching.specs.Inner.{Laid};
 ghost use Rattle.verdict.specs.Verdict.{refusedAs};
-ghost use Rattle.verdict.specs.Inner.{verdictOnWords};
+ghost use Rattle.verdict.specs.Inner.{verdictOnWords, meetingOf};
 use charset::Charset;
 use matching::Verdict;
 use queryitem::words::WORDS;
@@ -43,4 +43,35 @@ pub fn judge_text<'a>(set: Charset, text: &'a [u8], words: &'a [u16; WORDS]) -> 
         &xs,
         &ys,
     )
+}
+
+// The number of a verdict, and whether the query is met: what a dictionary asks of each line.
+pub struct Meeting {
+    pub number: u8,
+    pub met: bool,
+}
+
+pub fn meets_text<'a>(set: Charset, text: &'a [u8], words: &'a [u16; WORDS]) -> Meeting
+    requires { ⌜ Laid (now words) ⌝ }
+    ensures { λ r. ⌜ r ≡ meetingOf (verdictOnWords (now (words .entry)) (signOf set (now (text .entry)))) ⌝ }
+{
+    let mut prefix = [0u16; 32];
+    let mut codes = [0u16; 64];
+    let mut xs = [0u16; 64];
+    let mut ys = [0u16; 64];
+    let h = reader::arrays::read_into(set, text, &mut prefix, &mut codes, &mut xs, &mut ys);
+    let number = h.number;
+    if number != DONE {
+        return Meeting { number, met: false };
+    }
+    let met = matching::judging::meets(
+        words,
+        h.prefix_count,
+        h.symbol_count,
+        &prefix,
+        &codes,
+        &xs,
+        &ys,
+    );
+    Meeting { number: DONE, met }
 }

@@ -11,8 +11,8 @@ slice-read-if1 c = search needs
 returns : tie.Need-returns
 returns c = line-unlisted _ _ _ (c .if1 .taken)
 
-judge-text-requires : tie.Need-judge-text-requires
-judge-text-requires c κs = search needs
+meets-text-requires : tie.Need-meets-text-requires
+meets-text-requires c κs = search needs
 
 flag-by-requires : tie.Need-flag-by-requires
 flag-by-requires c κs = search needs
@@ -24,7 +24,7 @@ same-length : tie.Need-same-length
 same-length c = search needs
 
 returns-2 : tie.Need-returns-2
-returns-2 c = line-judged (c .before .before .before .before .before .before .args .flags .now) (c .before .before .before .before .before .before .args .e) _ _ (c .flag-by .ensures ∙ ap flagBy (c .before .judge-text .ensures)) (c .before .before .if1 .left)
+returns-2 c = line-judged (c .before .before .before .before .before .before .args .flags .now) (c .before .before .before .before .before .before .args .e) _ _ (c .flag-by .ensures ∙ ap flagBy (c .before .meets-text .ensures)) (c .before .before .if1 .left)
 
 pub judge-line-spec : {M : Type 1} → statement M
 judge-line-spec =
@@ -32,7 +32,7 @@ judge-line-spec =
     (tie.spec
     slice-read-if1
     returns
-    judge-text-requires
+    meets-text-requires
     flag-by-requires
     slice-write-flags
     same-length
