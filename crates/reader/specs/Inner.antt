@@ -5,14 +5,15 @@ use mathlib.Core.List.{List, map}
 use mathlib.Core.Option.{none}
 use lib.Dec.{eqb, ltb}
 use lib.ListN.{length}
-use Rattle.format.specs.Format.{choose, many}
+use Rattle.format.specs.Format.{choose, optional, many}
+use Rattle.format.specs.Located.{locate, onFound}
 use Rattle.charset.specs.declared.Charset.{Charset}
 use Rattle.charset.specs.Tokens.{tokens}
 use Rattle.token.specs.declared.reading.Token.the-variants as token
 use Rattle.token.specs.Refusal.{prefixLong, signboxLong}
-use Rattle.token.specs.Result.{Result, refusal, done, onDone, ofOutcome, resultAt}
+use Rattle.token.specs.Result.{Result, refusal, done, onDone, ofOutcome, ofLocated, resultAt}
 use Rattle.token.specs.Token.{tokenAt}
-use Rattle.grammar.specs.Sign.{Spatial, Meaning, prefixSymbol, spatial, signbox, sign, toSpatial, toMeaning, readSign}
+use Rattle.grammar.specs.Sign.{Spatial, Meaning, prefixSymbol, prefix, spatial, signbox, sign, toSpatial, toPrefix, toMeaning, readSign}
 use Rattle.reader.specs.declared.arrays.Count.{Count}
 use Rattle.reader.specs.declared.arrays.Head.{Head}
 use Rattle.token.specs.Padded.{padded}
@@ -68,6 +69,14 @@ pub record SignboxIn (set : Charset) (s : List ℕ) (at n : ℕ) (h : Head) (cod
 pub record Begun (set : Charset) (s : List ℕ) : Type 0 where
   pub marker : ℕ
   pub is : tokenAt (tokens set .marker 0 0) s 0 ≡ token.Value marker
+
+-- the prefix at the start of a text, empty where there is none, and where it ends
+abbrev pub prefixAt : Charset → List ℕ → Result (List ℕ × ℕ)
+prefixAt set s = ofLocated (length s) (onFound toPrefix (locate (optional (prefix (tokens set))) s 0))
+
+pub record LeadingPrefix (set : Charset) (s : List ℕ) (r : Count) (codes : List ℕ) : Type 0 where
+  pub is : r ≡ countOf (prefixAt set s)
+  pub holds : Holds 32 (λ c. c) (prefixAt set s) codes
 
 -- a sign that was read, in lent arrays, and its place
 abbrev pub ReadAs : Result (Meaning × ℕ) → Head → List ℕ → List ℕ → List ℕ → List ℕ → Type 0

@@ -3,7 +3,7 @@ ghost use mathlib.Core.Path.{_≡_};
 ghost use Prim.Native.Nat.{_≤_};
 ghost use lib.ListN.{length, set as setAt};
 ghost use Rattle.token.specs.Padded.{zeros};
-ghost use Rattle.reader.specs.Inner.{PrefixIn, SymbolsIn, SignboxIn, Begun, SignInto, TextInto, ReadInto, noHead, limited};
+ghost use Rattle.reader.specs.Inner.{PrefixIn, SymbolsIn, SignboxIn, Begun, LeadingPrefix, SignInto, TextInto, ReadInto, noHead, limited};
 use charset::Charset;
 use part::reading::Placed;
 use token::reading::Token;
@@ -179,36 +179,47 @@ fn signbox_into(
     }
 }
 
-// The prefix after its A, and the signbox after it.
-fn prefixed_into(
-    set: Charset,
-    s: &[u8],
-    prefix: &mut [u16; 32],
-    codes: &mut [u16; 64],
-    xs: &mut [u16; 64],
-    ys: &mut [u16; 64],
-) -> Head
-    requires { ⌜ Begun set (now s) × (now prefix ≡ zeros 32) × (now codes ≡ zeros 64) × (now xs ≡ zeros 64) × (now ys ≡ zeros 64) ⌝ }
-    ensures { λ r. ⌜ SignInto set (now (s .entry)) r (now (prefix .exit)) (now (codes .exit)) (now (xs .exit)) (now (ys .exit)) ⌝ }
+// The prefix after its A: it has a symbol.
+fn prefix_after(set: Charset, s: &[u8], codes: &mut [u16; 32]) -> Count
+    requires { ⌜ Begun set (now s) × (now codes ≡ zeros 32) ⌝ }
+    ensures { λ r. ⌜ LeadingPrefix set (now (s .entry)) r (now (codes .exit)) ⌝ }
 {
     let size = token::reading::marker_size(set);
-    let t = prefix_into(set, s, size, prefix);
+    let t = prefix_into(set, s, size, codes);
     let number = t.number;
     let place = t.place;
     let count = t.count;
     if number != DONE {
-        return no_head(number, place);
+        return counted(number, place, 0);
     }
     if 0 < count {
-        return signbox_into(set, s, place, count, codes, xs, ys);
+        return counted(DONE, place, count);
     }
     if place < s.len() {
-        return no_head(TEXT_WRONG, place);
+        return counted(TEXT_WRONG, place, 0);
     }
-    no_head(TEXT_SHORT, s.len())
+    counted(TEXT_SHORT, s.len(), 0)
 }
 
-// The sign at the start of a text, whatever the counts and whatever follows.
+// The prefix at the start of a text: where no A stands there is none.
+fn leading_prefix(set: Charset, s: &[u8], codes: &mut [u16; 32]) -> Count
+    requires { ⌜ now codes ≡ zeros 32 ⌝ }
+    ensures { λ r. ⌜ LeadingPrefix set (now (s .entry)) r (now (codes .exit)) ⌝ }
+{
+    match token::reading::marker_at(set, s, 0, 0, 0) {
+        Token::Value(_) => prefix_after(set, s, codes),
+        Token::Wrong(_) => counted(DONE, 0, 0),
+        Token::Short => {
+            if 0 < s.len() {
+                return counted(TEXT_SHORT, s.len(), 0);
+            }
+            counted(DONE, 0, 0)
+        }
+    }
+}
+
+// The sign at the start of a text, whatever the counts and whatever follows. The signbox is read in one place, so that the
+// compiler takes its loop in.
 fn sign_into(
     set: Charset,
     s: &[u8],
@@ -220,11 +231,13 @@ fn sign_into(
     requires { ⌜ (now prefix ≡ zeros 32) × (now codes ≡ zeros 64) × (now xs ≡ zeros 64) × (now ys ≡ zeros 64) ⌝ }
     ensures { λ r. ⌜ SignInto set (now (s .entry)) r (now (prefix .exit)) (now (codes .exit)) (now (xs .exit)) (now (ys .exit)) ⌝ }
 {
-    match token::reading::marker_at(set, s, 0, 0, 0) {
-        Token::Value(_) => prefixed_into(set, s, prefix, codes, xs, ys),
-        Token::Wrong(_) => signbox_into(set, s, 0, 0, codes, xs, ys),
-        Token::Short => no_head(TEXT_SHORT, s.len()),
+    let t = leading_prefix(set, s, prefix);
+    let number = t.number;
+    let place = t.place;
+    if number != DONE {
+        return no_head(number, place);
     }
+    signbox_into(set, s, place, t.count, codes, xs, ys)
 }
 
 // The same where nothing follows the sign.
