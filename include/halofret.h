@@ -39,7 +39,8 @@ extern "C" {
 enum {
     HALOFRET_DONE = 0,
     HALOFRET_TEXT_WRONG = 1,          /* the text is wrong. Place: the offset of the first wrong
-                                         byte; in SWU, of the four bytes that hold it */
+                                         byte, or of the first byte of the coordinate number
+                                         that it is in; in SWU, of the four bytes that hold it */
     HALOFRET_TEXT_SHORT = 2,          /* the text stops early. Place: its length */
     HALOFRET_PREFIX_LONG = 3,         /* over 32 prefix symbols or prefix items */
     HALOFRET_SIGNBOX_LONG = 4,        /* over 64 signbox symbols, or 32 signbox items of a query */

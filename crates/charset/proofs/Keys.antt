@@ -5,11 +5,11 @@ use mathlib.Core.Path.{_≡_, refl, sym, ap, _∙_}
 use mathlib.Core.Logic.{_⊎_, inl, inr}
 use lib.ListN.{length, drop}
 use native.Mathlib.Omega.{arith}
-use Rattle.format.specs.Format.{other, Format, first, second, sequence, either}
+use Rattle.format.specs.Format.{other, Format, first, second, sequence, either, atomic}
 use Rattle.format.specs.Numeral.{Range}
 use Rattle.format.proofs.Sequence.{sequence-other}
 use Rattle.format.proofs.Parts.{mapped-other}
-use Rattle.format.proofs.Delimited.{Delimited, Strict, sequence-strict, mapped-strict, either-strict}
+use Rattle.format.proofs.Delimited.{Delimited, atomic-delimited, Strict, sequence-strict, mapped-strict, either-strict}
 use Rattle.format.proofs.Unit.{unit-above}
 use Rattle.charset.specs.Bytes.{byteOf, digitOf, digitByte, digit, digits}
 use Rattle.charset.specs.Tokens.{base, turn, keyOf, partsOf, key, null, ofEither, toEither, nullOrKey, lastCode, fswNumber}
@@ -18,6 +18,10 @@ use Rattle.charset.proofs.Units.{digits-strict}
 
 pub number-strict : Strict 1 fswNumber
 number-strict = digits-strict (100 ∷ 10 ∷ []) 250 749 (omega arith) (omega arith, omega arith, (omega arith, omega arith, omega arith))
+
+-- as it is told, at its first byte
+pub number-delimited : Delimited 1 (atomic fswNumber)
+number-delimited = atomic-delimited 1 fswNumber (number-strict .delimited)
 
 pub base-strict : (lo hi : ℕ) → lo ≤ hi → hi < 4096 → Strict 1 (base lo hi)
 base-strict lo hi h k = digits-strict (256 ∷ 16 ∷ []) lo hi h (omega arith, omega arith, (omega arith, omega arith, omega arith))

@@ -2,3 +2,4 @@ pub mod Coding
 pub mod Units
 pub mod Keys
 pub mod Sets
+pub mod Numbers

@@ -41,7 +41,7 @@ character-strict from lo hi p k h =
 
 -- a fixed byte, and then a format
 module _ {A : Type 0} (b : ℕ) (f : Format A) where
-  after-inverse : Inverse (sequence (byte b) λ a. f) (λ p. p .1) (λ v. (b, v)) (f .Valid)
+  pub after-inverse : Inverse (sequence (byte b) λ a. f) (λ p. p .1) (λ v. (b, v)) (f .Valid)
   after-inverse = record {
     good = λ p ok. ok .1;
     back = λ p ok. let e : b ≡ p .0 = omega (arith, ok .0 .0, ok .0 .1) in λ i. (e i, p .1);

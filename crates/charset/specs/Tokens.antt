@@ -3,7 +3,7 @@ use Prim.Native.Nat.{ℕ, zero, suc, _+_, _-_, _*_, _/_, _%_}
 use Prim.Native.Char.{code}
 use mathlib.Core.List.{[], _∷_}
 use mathlib.Core.Logic.{_⊎_, inl, inr}
-use Rattle.format.specs.Format.{Format, sequence, mapped, either}
+use Rattle.format.specs.Format.{Format, sequence, mapped, either, atomic}
 use Rattle.format.specs.Numeral.{Range}
 use Rattle.charset.specs.declared.Charset.{Charset}
 use Rattle.charset.specs.declared.Charset.the-variants.{Fsw, Swu}
@@ -75,19 +75,24 @@ pub record Tokens : Type 1 where
   pub numberSize : ℕ
   pub secondSize : ℕ
 
-abbrev pub fsw : Tokens
-fsw = record {
+-- FSW, by the format of its coordinate numbers
+abbrev pub fswWith : Format ℕ → Tokens
+fswWith number = record {
   unit = 1;
   marker = letter;
   symbol = λ top. after (code "S") (key top);
   symbolOrNull = λ top. after (code "S") (nullOrKey top);
-  number = fswNumber;
-  second = after (code "x") fswNumber;
+  number = number;
+  second = after (code "x") number;
   markerSize = 1;
   symbolSize = 6;
   numberSize = 3;
   secondSize = 4;
 }
+
+-- document 02, Q-5: a wrong number is told at its first byte
+abbrev pub fsw : Tokens
+fsw = fswWith (atomic fswNumber)
 
 abbrev pub swuNumber : Format ℕ
 swuNumber = character (0x1d80c - 250) 250 749

@@ -8,7 +8,7 @@ use mathlib.Core.Option.{none, some}
 use lib.Dec.{ltb}
 use lib.ListN.{length, take, drop, length-append}
 use native.Mathlib.Omega.{arith}
-use Rattle.format.specs.Format.{Answer, value, other, wrong, short, Format, choose, first, second, unit, sequence, mapped, maybe, optional, either, orElse}
+use Rattle.format.specs.Format.{Answer, value, other, wrong, short, Format, choose, first, second, unit, sequence, mapped, maybe, optional, either, orElse, atStart, atomic}
 use Rattle.format.proofs.Lawful.{Lawful, Says}
 use Rattle.format.proofs.Sequence.{sequence-lawful}
 use Rattle.format.proofs.Parts.{Inverse, mapped-lawful, either-lawful}
@@ -104,6 +104,32 @@ mapped-delimited w f to from P t i = record {
   empty = ap (λ r. first r λ a rest. value (to a) rest) (t .empty);
   firm = λ text rest e. t .firm text rest (mapped-wrong to rest (f .read text) e);
 }
+
+-- what is told at its first unit is never wrong further on
+module _ {A : Type 0} (w : ℕ) (f : Format A) (d : Delimited w f) where
+  start-says : (text : List ℕ) (r : Answer A) → Says f text r → Says (atomic f) text (atStart r)
+  start-says text (value v rest) s = s
+  start-says text other s = tt
+  start-says text (wrong rest) s = tt
+  start-says text short s = tt
+
+  start-firm : (text rest : List ℕ) (r : Answer A) → atStart r ≡ wrong rest → length rest < length text
+  start-firm text rest (value v left) e = value-wrong e
+  start-firm text rest other e = other-wrong e
+  start-firm text rest (wrong left) e = other-wrong e
+  start-firm text rest short e = short-wrong e
+
+  pub atomic-delimited : Delimited w (atomic f)
+  atomic-delimited = record {
+    lawful = record {
+      whole = d .lawful .whole;
+      reads = λ v rest ok p. ap atStart (d .lawful .reads v rest ok p);
+      says = λ text. start-says text (f .read text) (d .lawful .says text);
+    };
+    free = d .free;
+    empty = ap atStart (d .empty);
+    firm = λ text rest e. start-firm text rest (f .read text) e;
+  }
 
 unit-go : (v : ℕ) (rest left : List ℕ) (p q r : Bool) → choose p short (choose q other (choose r other (value v left))) ≡ wrong rest → ⊥
 unit-go v rest left true q r e = short-wrong e

@@ -8,6 +8,8 @@ pub mod ExactParts
 pub mod ExactMany
 pub mod Unit
 pub mod Places
+pub mod Numbered
+pub mod NumberPlaces
 pub mod Delimited
 pub mod Numerals
 pub mod Loop

@@ -98,9 +98,9 @@ mapped f to from P = record {
   Follow = λ b rest. f .Follow (from b) rest;
 }
 
-abbrev pub writeMaybe : {A : Type 0} → Format A → Option A → List ℕ
-writeMaybe f none = []
-writeMaybe f (some a) = f .write a
+abbrev pub writeMaybe : {A : Type 0} → (A → List ℕ) → Option A → List ℕ
+writeMaybe write none = []
+writeMaybe write (some a) = write a
 
 abbrev pub Any : {A : Type 0} → (A → Type 0) → Option A → Type 0
 Any P none = Unit
@@ -113,7 +113,7 @@ FollowMaybe f (some a) rest = f .Follow a rest
 abbrev pub optional : {A : Type 0} → Format A → Format (Option A)
 optional f = record {
   read = λ text. maybe none text (f .read text) λ a rest. value (some a) rest;
-  write = writeMaybe f;
+  write = writeMaybe (f .write);
   Valid = Any (f .Valid);
   Follow = FollowMaybe f;
 }
@@ -123,9 +123,9 @@ abbrev pub run : {A : Type 0} → (List ℕ → Answer A) → ℕ → List ℕ �
 run r zero text = short
 run r (suc k) text = maybe [] text (r text) λ a rest. second (λ l. a ∷ l) rest (run r k rest)
 
-abbrev pub writeAll : {A : Type 0} → Format A → List A → List ℕ
-writeAll f [] = []
-writeAll f (a ∷ l) = f .write a ++ writeAll f l
+abbrev pub writeAll : {A : Type 0} → (A → List ℕ) → List A → List ℕ
+writeAll write [] = []
+writeAll write (a ∷ l) = write a ++ writeAll write l
 
 abbrev pub All : {A : Type 0} → (A → Type 0) → List A → Type 0
 All P [] = Unit
@@ -138,12 +138,12 @@ keep test (a ∷ l) = choose (test a) (a ∷ keep test l) (keep test l)
 
 abbrev pub FollowAll : {A : Type 0} → Format A → List A → List ℕ → Type 0
 FollowAll f [] rest = Absent rest (f .read rest)
-FollowAll f (a ∷ l) rest = FollowAll f l rest × f .Follow a (writeAll f l ++ rest)
+FollowAll f (a ∷ l) rest = FollowAll f l rest × f .Follow a (writeAll (f .write) l ++ rest)
 
 abbrev pub many : {A : Type 0} → Format A → Format (List A)
 many f = record {
   read = λ text. run (f .read) (suc (length text)) text;
-  write = writeAll f;
+  write = writeAll (f .write);
   Valid = All (f .Valid);
   Follow = FollowAll f;
 }
@@ -168,6 +168,16 @@ either f g = record {
   Valid = ValidEither f g;
   Follow = FollowEither f g;
 }
+
+-- the same texts, of which a wrong one is told at its first unit
+abbrev pub atStart : {A : Type 0} → Answer A → Answer A
+atStart (value a rest) = value a rest
+atStart other = other
+atStart (wrong rest) = other
+atStart short = short
+
+abbrev pub atomic : {A : Type 0} → Format A → Format A
+atomic f = record { read = λ text. atStart (f .read text); write = f .write; Valid = f .Valid; Follow = f .Follow }
 
 -- the end of the text, which is taken in units of w bytes
 abbrev pub endRead : ℕ → List ℕ → Answer (Unit {0})

@@ -1,4 +1,5 @@
 pub mod Format
 pub mod Numeral
 pub mod Places
+pub mod Numbers
 pub mod Located

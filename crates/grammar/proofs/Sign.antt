@@ -16,7 +16,7 @@ use Rattle.charset.specs.declared.Charset.{Charset}
 use Rattle.charset.specs.declared.Charset.the-variants.{Fsw, Swu}
 use Rattle.charset.specs.Tokens.{Tokens, tokens, fsw, lastWriting, lastLocation, lastCode}
 use Rattle.charset.proofs.Sets.{LawfulTokens, lawful}
-use Rattle.grammar.specs.Sign.{Spatial, Meaning, ValidSymbol, Valid, point, placed, prefixSymbol, prefixSymbols, prefix, lead, spatial, signbox, parts, Parts, toSpatial, ofSpatial, toPrefix, ofPrefix, toMeaning, ofMeaning, sign}
+use Rattle.grammar.specs.Sign.{Spatial, Meaning, ValidSymbol, Valid, point, placed, prefixSymbol, prefixSymbols, prefix, lead, spatial, signbox, parts, Parts, toSpatial, ofSpatial, toPrefix, ofPrefix, toMeaning, ofMeaning, signWith, sign}
 
 -- what may follow zero or more tokens: what may not begin one
 pub all-follow : {A : Type 0} (w : ℕ) (f : Format A) → Delimited w f → (v : List A) (rest : List ℕ) → many f .Valid v → Absent rest (f .read rest) → FollowAll f v rest
@@ -68,7 +68,7 @@ module _ (t : Tokens) (l : LawfulTokens t) where
       let s = many (spatial t) .write (b .1) in
       ap read (append-assoc (m ++ q) s rest ∙ append-assoc m q (s ++ rest)) ∙ p (q ++ (s ++ rest))
 
-  prefix-follow : (p : Option (ℕ × (ℕ × List ℕ))) (b : (ℕ × (ℕ × ℕ)) × List (ℕ × (ℕ × ℕ))) (rest : List ℕ)
+  pub prefix-follow : (p : Option (ℕ × (ℕ × List ℕ))) (b : (ℕ × (ℕ × ℕ)) × List (ℕ × (ℕ × ℕ))) (rest : List ℕ)
       → optional (prefix t) .Valid p → signbox t .Valid b → optional (prefix t) .Follow p (signbox t .write b ++ rest)
   prefix-follow none b rest ok box =
       absent-other (signbox t .write b ++ rest)
@@ -129,21 +129,17 @@ prefix-forth : (l : List ℕ) → toPrefix (ofPrefix l) ≡ l
 prefix-forth [] = refl
 prefix-forth (a ∷ l) = refl
 
--- both sets can say the same
-alike : (set : Charset) → parts (tokens set) .Valid ≡ parts fsw .Valid
-alike Fsw = refl
-alike Swu = refl
+-- tokens that can say what FSW can
+module _ (t : Tokens) (alike : parts t .Valid ≡ parts fsw .Valid) where
+  to-fsw : (v : Parts) → parts t .Valid v → parts fsw .Valid v
+  to-fsw v ok = subst (λ (P : Parts → Type 0). P v) alike ok
 
-module _ (set : Charset) where
-  to-fsw : (v : Parts) → parts (tokens set) .Valid v → parts fsw .Valid v
-  to-fsw v ok = subst (λ (P : Parts → Type 0). P v) (alike set) ok
-
-  pub sound : (m : Meaning) → Valid m → parts (tokens set) .Valid (ofMeaning m)
+  pub sound : (m : Meaning) → Valid m → parts t .Valid (ofMeaning m)
   sound m ok =
-      subst (λ (P : Parts → Type 0). P (ofMeaning m)) (sym (alike set))
+      subst (λ (P : Parts → Type 0). P (ofMeaning m)) (sym alike)
       (prefix-sound (m .prefix) (ok .prefix), ((ok .marker, ok .maximum), symbols-sound (m .symbols) (ok .symbols)))
 
-  pub sign-inverse : Inverse (parts (tokens set)) toMeaning ofMeaning Valid
+  pub sign-inverse : Inverse (parts t) toMeaning ofMeaning Valid
   sign-inverse = record {
     good = λ v ok.
         let k = to-fsw v ok in
@@ -155,9 +151,17 @@ module _ (set : Charset) where
     forth = λ m ok i. record { prefix = prefix-forth (m .prefix) i; marker = m .marker; x = m .x; y = m .y; symbols = spatial-forth (m .symbols) i };
   }
 
-  pub sign-lawful : Lawful (tokens set .unit) (sign set)
-  sign-lawful =
-      mapped-lawful (tokens set .unit) (parts (tokens set)) toMeaning ofMeaning Valid (parts-lawful (tokens set) (lawful set)) sign-inverse
+  pub with-ready : LawfulTokens t → (m : Meaning) → Valid m → signWith t .Follow m []
+  with-ready l m ok = parts-ready t l (ofMeaning m) (sound m ok)
 
-  pub sign-ready : (m : Meaning) → Valid m → sign set .Follow m []
-  sign-ready m ok = parts-ready (tokens set) (lawful set) (ofMeaning m) (sound m ok)
+-- both sets can say the same
+pub alike : (set : Charset) → parts (tokens set) .Valid ≡ parts fsw .Valid
+alike Fsw = refl
+alike Swu = refl
+
+pub sign-lawful : (set : Charset) → Lawful (tokens set .unit) (sign set)
+sign-lawful set =
+    mapped-lawful (tokens set .unit) (parts (tokens set)) toMeaning ofMeaning Valid (parts-lawful (tokens set) (lawful set)) (sign-inverse (tokens set) (alike set))
+
+pub sign-ready : (set : Charset) (m : Meaning) → Valid m → sign set .Follow m []
+sign-ready set = with-ready (tokens set) (alike set) (lawful set)

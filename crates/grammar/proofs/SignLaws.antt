@@ -5,14 +5,15 @@ use mathlib.Core.Path.{_≡_, refl, sym, ap, _∙_}
 use mathlib.Core.Logic.{_↔_}
 use Rattle.format.specs.Places.{fine}
 use Rattle.format.proofs.Reading.{fine-exactly}
-use Rattle.format.proofs.Places.{exactly, by-bytes}
+use Rattle.format.proofs.Places.{exactly}
 use Rattle.charset.specs.declared.Charset.{Charset}
-use Rattle.charset.specs.declared.Charset.the-variants.{Fsw}
+use Rattle.charset.specs.declared.Charset.the-variants.{Fsw, Swu}
 use Rattle.charset.specs.Tokens.{tokens}
 use Rattle.grammar.specs.Sign.{Meaning, Valid, sign, signText, readSign}
-use Rattle.grammar.specs.SignLaws.{SignLaws, FswPlaces}
+use Rattle.grammar.specs.SignLaws.{SignPlaces, SignLaws}
 use Rattle.grammar.proofs.Sign.{sign-lawful, sign-ready}
 use Rattle.grammar.proofs.ExactSign.{sign-exact}
+use Rattle.grammar.proofs.SignPlaces.{fsw-places}
 
 sign-fine : (set : Charset) (text : List ℕ) (m : Meaning) → (readSign set text ≡ fine m) ↔ (Valid m × (text ≡ signText set m))
 sign-fine set = fine-exactly (tokens set .unit) (sign set) (sign-lawful set) (sign-ready set)
@@ -23,13 +24,14 @@ reads set m ok = sign-fine set (signText set m) m .1 (ok, refl)
 same-fine : {m k : Meaning} → fine m ≡ fine k → m ≡ k
 same-fine e = cc
 
+places : (set : Charset) → SignPlaces set
+places Fsw = fsw-places
+places Swu = exactly 4 (sign Swu) (sign-exact Swu) (sign-ready Swu)
+
 pub sign-laws : (set : Charset) → SignLaws set
 sign-laws set = record {
   reads = reads set;
   writes = λ text m e. sign-fine set text m .0 e;
   one = λ m k a b e. same-fine (sym (reads set m a) ∙ ap (readSign set) e ∙ reads set k b);
-  places = exactly (tokens set .unit) (sign set) (sign-exact set) (sign-ready set);
+  places = places set;
 }
-
-pub fsw-places : FswPlaces
-fsw-places = by-bytes (sign Fsw) (sign-exact Fsw) (sign-ready Fsw)

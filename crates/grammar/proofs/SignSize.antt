@@ -15,7 +15,7 @@ use Rattle.charset.proofs.Sets.{lawful}
 use Rattle.grammar.specs.Sign.{Meaning, ValidSymbol, Valid, prefixSymbol, prefix, lead, spatial, ofSpatial, ofPrefix, signText}
 use Rattle.grammar.specs.Size.{leadSize, spatialSize, prefixSize, signSize}
 use Rattle.grammar.specs.SignLaws.{longest, Longest}
-use Rattle.grammar.proofs.Sign.{symbol-fixed, lead-fixed, spatial-fixed, sound}
+use Rattle.grammar.proofs.Sign.{symbol-fixed, lead-fixed, spatial-fixed, sound, alike}
 
 many-size : {A : Type 0} (w n : ℕ) (f : Format A) → Fixed w n f → (l : List A) → All (f .Valid) l → length (many f .write l) ≡ length l * n
 many-size w n f x [] ok = omega arith
@@ -45,7 +45,7 @@ module _ (set : Charset) where
   -- the size of a sign depends on its counts alone
   pub sign-size : (m : Meaning) → Valid m → length (signText set m) ≡ signSize set (length (m .prefix)) (length (m .symbols))
   sign-size m ok =
-      let k = sound set m ok in
+      let k = sound (tokens set) (alike set) m ok in
       let p = optional (prefix t) .write (ofPrefix (m .prefix)) in
       let h = lead t .write (m .marker, (m .x, m .y)) in
       let s = many (spatial t) .write (map ofSpatial (m .symbols)) in

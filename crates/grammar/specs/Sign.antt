@@ -98,8 +98,11 @@ abbrev pub ofMeaning : Meaning → Parts
 ofMeaning m = (ofPrefix (m .prefix), ((m .marker, (m .x, m .y)), map ofSpatial (m .symbols)))
 
 -- THE SIGN, once for both character sets
+abbrev pub signWith : Tokens → Format Meaning
+signWith t = mapped (parts t) toMeaning ofMeaning Valid
+
 abbrev pub sign : Charset → Format Meaning
-sign set = mapped (parts (tokens set)) toMeaning ofMeaning Valid
+sign set = signWith (tokens set)
 
 -- the text of a sign
 abbrev pub signText : Charset → Meaning → List ℕ

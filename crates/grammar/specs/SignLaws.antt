@@ -1,14 +1,34 @@
 -- What is proved of the grammar of a sign, in both character sets.
 use Prim.Native.Nat.{ℕ, _≤_}
+use Prim.Native.Char.{code}
 use mathlib.Core.Path.{_≡_}
 use mathlib.Core.List.{List}
-use mathlib.Core.Logic.{_↔_}
+use mathlib.Core.Logic.{_⊎_, _↔_}
 use lib.ListN.{length}
-use Rattle.format.specs.Places.{Outcome, fine, Means, ByBytes}
+use Rattle.format.specs.Format.{optional, many}
+use Rattle.format.specs.Places.{Outcome, fine, Means}
+use Rattle.format.specs.Numbers.{Here, After, ByNumbers}
 use Rattle.charset.specs.declared.Charset.{Charset}
 use Rattle.charset.specs.declared.Charset.the-variants.{Fsw, Swu}
-use Rattle.charset.specs.Tokens.{tokens}
-use Rattle.grammar.specs.Sign.{Meaning, Valid, sign, signText, readSign}
+use Rattle.charset.specs.Bytes.{byte}
+use Rattle.charset.specs.Tokens.{fsw, lastWriting}
+use Rattle.grammar.specs.Sign.{Meaning, Valid, prefix, lead, spatial, sign, signText, readSign}
+
+-- Where coordinate numbers stand in FSW, by what is written before them: the first of a coordinate at its start, the second
+-- after the first and an x; in a sign, after the marker of its signbox and after the key of each signbox symbol.
+abbrev pub PointNumber : List ℕ → Type 0
+PointNumber x = Here x ⊎ After (fsw .number) (After (byte (code "x")) Here) x
+
+abbrev pub BoxNumber : List ℕ → Type 0
+BoxNumber x = After (fsw .marker 1 4) PointNumber x ⊎ After (lead fsw) (After (many (spatial fsw)) (After (fsw .symbol lastWriting) PointNumber)) x
+
+abbrev pub SignNumber : List ℕ → Type 0
+SignNumber = After (optional (prefix fsw)) BoxNumber
+
+-- the law of places: in FSW byte by byte, and a wrong number at its first; in SWU each outcome exactly where it holds (see Means)
+abbrev pub SignPlaces : Charset → Type 0
+SignPlaces Fsw = ByNumbers (sign Fsw) SignNumber
+SignPlaces Swu = (text : List ℕ) (o : Outcome Meaning) → (readSign Swu text ≡ o) ↔ Means 4 (sign Swu) text o
 
 pub record SignLaws (set : Charset) : Type 0 where
   -- reading what was written gives the sign back, and writing what was read gives the text back
@@ -16,8 +36,7 @@ pub record SignLaws (set : Charset) : Type 0 where
   pub writes : (text : List ℕ) (m : Meaning) → readSign set text ≡ fine m → Valid m × (text ≡ signText set m)
   -- so a text has one meaning
   pub one : (m k : Meaning) → Valid m → Valid k → signText set m ≡ signText set k → m ≡ k
-  -- the law of places: each outcome is given exactly where it holds (see Means)
-  pub places : (text : List ℕ) (o : Outcome Meaning) → (readSign set text ≡ o) ↔ Means (tokens set .unit) (sign set) text o
+  pub places : SignPlaces set
 
 abbrev pub longest : Charset → ℕ
 longest Fsw = 1033
@@ -31,7 +50,3 @@ pub record Longest (set : Charset) : Type 0 where
   pub prefix : length (sign .prefix) ≡ 32
   pub symbols : length (sign .symbols) ≡ 64
   pub size : length (signText set sign) ≡ longest set
-
--- in FSW, byte by byte
-abbrev pub FswPlaces : Type 0
-FswPlaces = ByBytes (sign Fsw)

@@ -7,7 +7,7 @@ use lib.Seq.{drop-cons, drop-drop, take-add}
 use native.Mathlib.Omega.{arith}
 use Rattle.format.specs.Format.{Format, sequence}
 use Rattle.charset.specs.Bytes.{digitByte, digits, markerOf, markerByte, after}
-use Rattle.charset.specs.Tokens.{Tokens, fsw, fswNumber, lastLocation, base, turn, key, keyOf}
+use Rattle.charset.specs.Tokens.{Tokens, fsw, lastLocation, base, turn, key, keyOf}
 use Rattle.charset.proofs.Keys.{parts-of-key}
 use Rattle.grammar.specs.Sign.{point, placed, prefixSymbol, lead}
 use Rattle.part.specs.declared.quick.Look.{Look}
@@ -65,7 +65,7 @@ module _ (s : List ℕ) where
       (byte-at at _ (omega arith) a) (two-digits q lo hi (at + 1) (at + 2) (v % p) (omega arith) (omega arith) b c)
 
   pub number-sure : (at a b c v : ℕ) → at + 3 ≤ length s → a ≡ getD s at 0 → SureDigit (getD s (at + 1) 0) b → SureDigit (getD s (at + 2) 0) c → b ≤ 9 → c ≤ 9
-      → v + (4800 + 250) ≡ a * 100 + b * 10 + c → v ≤ 749 - 250 → SureValue 3 fswNumber s at (250 + v)
+      → v + (4800 + 250) ≡ a * 100 + b * 10 + c → v ≤ 749 - 250 → SureValue 3 (fsw .number) s at (250 + v)
   number-sure at a b c v h ea p q hb hc e u = record {
     is = λ _. let eb = p .is hb in let ec = q .is hc in record {
       valid = (omega arith, omega arith);
@@ -152,11 +152,11 @@ module _ (s : List ℕ) where
         → Sure (n + pointSize) (placed t f) s at r
     placed-sure n f at value r p a = placed-spelled n f at value r (p .is (omega (arith, a)))
 
-  pub fsw-point-sure : (at value x y : ℕ) → at + 7 ≤ length s → SureValue 3 fswNumber s at x → (x ≡ 0 → ⊥) → getD s (at + 3) 0 ≡ 120
-      → SureValue 3 fswNumber s (at + 4) y → (y ≡ 0 → ⊥) → SureAfter fsw s at value (Found value x y)
+  pub fsw-point-sure : (at value x y : ℕ) → at + 7 ≤ length s → SureValue 3 (fsw .number) s at x → (x ≡ 0 → ⊥) → getD s (at + 3) 0 ≡ 120
+      → SureValue 3 (fsw .number) s (at + 4) y → (y ≡ 0 → ⊥) → SureAfter fsw s at value (Found value x y)
   fsw-point-sure at value x y h p a e q b =
       point-sure fsw at value x y (p .is (omega (arith, a)))
-      (spelled-after 3 120 fswNumber (at + 3) (at + 4) y (omega arith) (omega arith) e (q .is (omega (arith, b))))
+      (spelled-after 3 120 (fsw .number) (at + 3) (at + 4) y (omega arith) (omega arith) e (q .is (omega (arith, b))))
 
   pub fsw-lead-sure : (at m : ℕ) (r : Look) → at < length s → m ≡ markerOf (getD s at 0) → 1 ≤ m → m ≤ 4 → SureAfter fsw s (at + 1) m r → Sure 8 (lead fsw) s at r
   fsw-lead-sure at m r h e l u = placed-spelled fsw 1 (fsw .marker 1 4) at m r (marker-spelled at m h e l u)

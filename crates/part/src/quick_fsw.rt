@@ -4,7 +4,7 @@
 ghost use mathlib.Core.Path.{_≡_};
 ghost use Prim.Native.Nat.{_+_, _^_, _≤_};
 ghost use lib.ListN.{length};
-ghost use Rattle.charset.specs.Tokens.{lastPunctuation, fsw, fswNumber};
+ghost use Rattle.charset.specs.Tokens.{lastPunctuation, fsw};
 ghost use Rattle.grammar.specs.Sign.{lead, spatial, prefixSymbol};
 ghost use Rattle.part.specs.Inner.{digitOr, baseIn, turnIn, SureDigit, SureValue, Sure, SureAfter};
 use super::quick::Look;
@@ -61,7 +61,7 @@ const MOST_ABOVE: u32 = (GREATEST_NUMBER - LEAST_NUMBER) as u32;
 // A number, and 0 where there is none. The limits of the sum leave no first byte but the digits 2 to 7.
 fn number(s: &[u8], at: usize) -> u16
     requires { ⌜ at + 3 ≤ length (now s) ⌝ }
-    ensures { λ r. ⌜ SureValue 3 fswNumber (now (s .entry)) at r ⌝ }
+    ensures { λ r. ⌜ SureValue 3 (fsw .number) (now (s .entry)) at r ⌝ }
 {
     let b = dec(s[at + 1]);
     let c = dec(s[at + 2]);

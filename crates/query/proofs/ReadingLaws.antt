@@ -37,11 +37,11 @@ all-append P (a ∷ l) m p q = (p .0, all-append P l m (p .1) q)
 
 module _ {A : Type 0} (f : Format A) (of : A → Item) (P : Spot → Type 0) (text : List ℕ)
     (put : (a : A) (at : ℕ) (rest : List ℕ) → drop at text ≡ f .write a ++ rest → P (at, of a)) where
-  stand-all : (at : ℕ) (l : List A) (rest : List ℕ) → drop at text ≡ writeAll f l ++ rest → All P (spotsFrom f of at l)
+  stand-all : (at : ℕ) (l : List A) (rest : List ℕ) → drop at text ≡ writeAll (f .write) l ++ rest → All P (spotsFrom f of at l)
   stand-all at [] rest e = tt
   stand-all at (a ∷ l) rest e =
-      let x : drop at text ≡ f .write a ++ (writeAll f l ++ rest) = e ∙ append-assoc (f .write a) (writeAll f l) rest in
-      (put a at (writeAll f l ++ rest) x, stand-all (at + length (f .write a)) l rest (onward text (f .write a) (writeAll f l ++ rest) at x))
+      let x : drop at text ≡ f .write a ++ (writeAll (f .write) l ++ rest) = e ∙ append-assoc (f .write a) (writeAll (f .write) l) rest in
+      (put a at (writeAll (f .write) l ++ rest) x, stand-all (at + length (f .write a)) l rest (onward text (f .write a) (writeAll (f .write) l ++ rest) at x))
 
 put-item : (text : List ℕ) (i : ItemText) (at : ℕ) (rest : List ℕ) → drop at text ≡ item .write i ++ rest → Stands text (at, itemOf i)
 put-item text i at rest e = record { says = i; means = refl; rest = rest; is = e }
@@ -53,7 +53,7 @@ put-sought text p at rest e = put-item text (p .0) at (optional coordinate .writ
 
 module _ (text : List ℕ) (t : QueryText) (e : readQuery text ≡ fine t) where
   abbrev tail-text : List ℕ
-  tail-text = writeAll signboxItem (t .1 .0) ++ variance .write (t .1 .1)
+  tail-text = writeAll (signboxItem .write) (t .1 .0) ++ variance .write (t .1 .1)
 
   written : drop 1 text ≡ optional head .write (t .0) ++ tail-text
   written = ap (drop 1) (query-laws .writes text t e .1)
@@ -63,8 +63,8 @@ module _ (text : List ℕ) (t : QueryText) (e : readQuery text ≡ fine t) where
   head-stand (some (inl u)) rest w = tt
   head-stand (some (inr p)) rest w =
       let l = p .0 .0 ∷ p .0 .1 in
-      let x : drop 2 text ≡ (writeAll item l ++ (p .1 ∷ [])) ++ rest = onward text (code "A" ∷ []) ((writeAll item l ++ (p .1 ∷ [])) ++ rest) 1 w in
-      stand-all item itemOf (Stands text) text (put-item text) 2 l ((p .1 ∷ []) ++ rest) (x ∙ append-assoc (writeAll item l) (p .1 ∷ []) rest)
+      let x : drop 2 text ≡ (writeAll (item .write) l ++ (p .1 ∷ [])) ++ rest = onward text (code "A" ∷ []) ((writeAll (item .write) l ++ (p .1 ∷ [])) ++ rest) 1 w in
+      stand-all item itemOf (Stands text) text (put-item text) 2 l ((p .1 ∷ []) ++ rest) (x ∙ append-assoc (writeAll (item .write) l) (p .1 ∷ []) rest)
 
   tail-stand : All (Stands text) (spotsFrom signboxItem (λ p. itemOf (p .0)) (1 + length (optional head .write (t .0))) (t .1 .0))
   tail-stand = stand-all signboxItem (λ p. itemOf (p .0)) (Stands text) text (put-sought text) (1 + length (optional head .write (t .0))) (t .1 .0) (variance .write (t .1 .1)) (onward text (optional head .write (t .0)) tail-text 1 written)

@@ -1,5 +1,6 @@
-pub mod Open
 pub mod Begun
 pub mod Query
+pub mod Follow
 pub mod ExactQuery
+pub mod QueryPlaces
 pub mod QueryLaws

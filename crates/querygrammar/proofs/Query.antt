@@ -1,29 +1,27 @@
--- The query is lawful, and each of its parts may be followed by what follows it.
-use Prim.Native.Nat.{ℕ, _+_, _-_, _*_, _≤_, _<_, min}
-use mathlib.Core.List.{List, [], _∷_, _++_, append-assoc}
+-- The query is lawful.
+use Prim.Native.Nat.{ℕ, _+_, _-_, _≤_, _<_}
+use mathlib.Core.List.{List, [], _∷_, _++_}
 use mathlib.Core.Path.{_≡_, refl, ap, _∙_}
 use mathlib.Core.Bool.{Bool, true, false}
-use mathlib.Core.Logic.{inl, inr}
-use mathlib.Core.Option.{Option, none, some}
 use lib.Dec.{ltb}
 use lib.ListN.{length-append}
 use native.Mathlib.Omega.{arith}
 use borrow.Author.Tests.{ltb-true, ltb-false, lt-ltb, le-ltb}
-use Rattle.format.specs.Format.{value, other, Format, first, second, optional, many, either, orElse, Absent, FollowAll}
+use Rattle.format.specs.Format.{other, Format, first, second, optional, many, either, orElse}
 use Rattle.format.proofs.Lawful.{Lawful}
 use Rattle.format.proofs.Sequence.{sequence-lawful}
 use Rattle.format.proofs.Parts.{optional-lawful, either-lawful}
 use Rattle.format.proofs.Many.{many-lawful}
 use Rattle.format.proofs.Unit.{unit-below, unit-above}
 use Rattle.format.proofs.Delimited.{Delimited, Strict, sequence-strict, either-strict, sequence-firm, optional-firm, solid}
-use Rattle.charset.specs.Bytes.{digitOf, byteOf, digitByte, byte, digit, digits, after}
-use Rattle.charset.specs.Tokens.{fsw, fswNumber}
+use Rattle.charset.specs.Bytes.{digitOf, byteOf, digitByte, byte, digit, after}
+use Rattle.charset.specs.Tokens.{fsw}
 use Rattle.charset.proofs.Units.{byte-strict, byte-delimited, digit-strict, digit-delimited, after-strict, after-lawful}
 use Rattle.charset.proofs.Keys.{base-strict}
 use Rattle.charset.proofs.Sets.{fsw-lawful}
-use Rattle.grammar.proofs.Sign.{all-follow, absent-other, sequence-other, point-fixed}
-use Rattle.querygrammar.specs.Query.{queryBase, orAny, openDigits, keyTail, rangeEnd, rangeTail, ItemText, item, coordinate, SoughtText, signboxItem, someItems, prefixItems, HeadText, head, laterFigures, Figures, figures, variance, tail, QueryText, afterQ, query}
-use Rattle.querygrammar.proofs.Open.{Open}
+use Rattle.grammar.proofs.Sign.{point-fixed}
+use Rattle.querygrammar.specs.Query.{queryBase, orAny, openDigits, keyTail, rangeEnd, rangeTail, item, coordinate, signboxItem, someItems, prefixItems, head, laterFigures, figures, variance, tail, afterQ, query}
+use Rattle.format.proofs.Loop.{Open}
 use Rattle.querygrammar.proofs.Begun.{after-other}
 
 -- BYTES THAT ARE NOT THE ONE ASKED FOR
@@ -34,17 +32,17 @@ byte-go b x t n false e =
     let k : b ≤ x = ltb-false x b e in
     unit-above 1 (byteOf λ a. a) (λ a. a ∷ []) b b (x ∷ []) t refl k (omega (arith, n))
 
-byte-other : (b x : ℕ) (t : List ℕ) → (x ≡ b → ⊥) → byte b .read (x ∷ t) ≡ other
+pub byte-other : (b x : ℕ) (t : List ℕ) → (x ≡ b → ⊥) → byte b .read (x ∷ t) ≡ other
 byte-other b x t n = byte-go b x t n (ltb x b) refl
 
-after-byte : {A : Type 0} (b : ℕ) (f : Format A) (x : ℕ) (t : List ℕ) → (x ≡ b → ⊥) → after b f .read (x ∷ t) ≡ other
+pub after-byte : {A : Type 0} (b : ℕ) (f : Format A) (x : ℕ) (t : List ℕ) → (x ≡ b → ⊥) → after b f .read (x ∷ t) ≡ other
 after-byte b f x t n = after-other b f (x ∷ t) (byte-other b x t n)
 
-either-other : {A B : Type 0} (f : Format A) (g : Format B) (text : List ℕ) → f .read text ≡ other → g .read text ≡ other → either f g .read text ≡ other
+pub either-other : {A B : Type 0} (f : Format A) (g : Format B) (text : List ℕ) → f .read text ≡ other → g .read text ≡ other → either f g .read text ≡ other
 either-other f g text p q = ap (λ r. orElse r (g .read text)) p ∙ ap (orElse other) q
 
 -- a letter is no digit
-letter-digit : (x : ℕ) → 58 ≤ x → x < 97 → digitOf x ≡ 16
+pub letter-digit : (x : ℕ) → 58 ≤ x → x < 97 → digitOf x ≡ 16
 unfolding digitOf
 letter-digit x h k = rw (le-ltb x 48 (omega arith), le-ltb x 58 h, lt-ltb x 97 k)
 
@@ -52,7 +50,7 @@ u-digit : digitOf 117 ≡ 16
 unfolding digitOf
 u-digit = refl
 
-digit-other : (lo hi x : ℕ) (t : List ℕ) → digitOf x ≡ 16 → lo ≤ 16 → hi ≤ 15 → digit lo hi .read (x ∷ t) ≡ other
+pub digit-other : (lo hi x : ℕ) (t : List ℕ) → digitOf x ≡ 16 → lo ≤ 16 → hi ≤ 15 → digit lo hi .read (x ∷ t) ≡ other
 digit-other lo hi x t e a b =
     unit-above 1 (byteOf digitOf) (λ d. digitByte d ∷ []) lo hi (x ∷ []) t refl (omega (arith, e)) (omega (arith, e))
 
@@ -142,105 +140,3 @@ tail-lawful =
 
 pub query-lawful : Lawful 1 query
 query-lawful = after-lawful 81 afterQ (sequence-lawful 1 (optional head) (λ h. tail) optional-head-lawful λ h ok. tail-lawful)
-
--- WHAT MAY FOLLOW WHAT
-
--- after the head and after each item come an item, V or the end
-abbrev Later : List ℕ → Type 0
-Later [] = Unit
-Later (x ∷ t) = (82 ≤ x) × (x ≤ 86) × (x ≡ 84 → ⊥)
-
-item-not : (x : ℕ) (t : List ℕ) → (x ≡ 83 → ⊥) → (x ≡ 82 → ⊥) → item .read (x ∷ t) ≡ other
-item-not x t p q = either-other (after 83 keyTail) (after 82 rangeTail) (x ∷ t) (after-byte 83 keyTail x t p) (after-byte 82 rangeTail x t q)
-
-number-not : (x : ℕ) (t : List ℕ) → 58 ≤ x → x < 97 → coordinate .read (x ∷ t) ≡ other
-number-not x t a b =
-    sequence-other fswNumber (λ n. after 120 fswNumber) (x ∷ t)
-    (ap (λ r. first {A = ℕ × ℕ} r λ p rest. value (p .0 * 100 + p .1) rest)
-    (sequence-other (digit 2 7) (λ d. digits (10 ∷ []) (250 - d * 100) (min (100 - 1) (749 - d * 100))) (x ∷ t) (digit-other 2 7 x t (letter-digit x a b) (omega arith) (omega arith))))
-
-coordinate-absent : (text : List ℕ) → Later text → Absent text (coordinate .read text)
-coordinate-absent [] k = tt
-coordinate-absent (x ∷ t) k = absent-other (x ∷ t) (number-not x t (omega (arith, k .0)) (omega (arith, k .1)))
-
-head-absent : (text : List ℕ) → Later text → Absent text (head .read text)
-head-absent [] k = tt
-head-absent (x ∷ t) k =
-    absent-other (x ∷ t) (either-other (byte 84) (after 65 prefixItems) (x ∷ t) (byte-other 84 x t (k .2)) (after-byte 65 prefixItems x t (λ e. omega (arith, k .0, e))))
-
-item-absent : (v : Option Figures) → Absent (variance .write v ++ []) (signboxItem .read (variance .write v ++ []))
-item-absent none = tt
-item-absent (some f) =
-    let t = figures .write f ++ [] in
-    absent-other (86 ∷ t) (sequence-other item (λ i. optional coordinate) (86 ∷ t) (item-not 86 t (λ e. omega arith) (λ e. omega arith)))
-
-variance-later : (v : Option Figures) → Later (variance .write v ++ [])
-variance-later none = tt
-variance-later (some f) = (omega arith, omega arith, λ e. omega arith)
-
-item-later : (i : ItemText) (t : List ℕ) → Later (item .write i ++ t)
-item-later (inl k) t = (omega arith, omega arith, λ e. omega arith)
-item-later (inr r) t = (omega arith, omega arith, λ e. omega arith)
-
-items-later : (l : List SoughtText) (rest : List ℕ) → Later rest → Later (many signboxItem .write l ++ rest)
-items-later [] rest k = k
-items-later (a ∷ l) rest k =
-    let p = optional coordinate .write (a .1) in
-    rw (append-assoc (item .write (a .0) ++ p) (many signboxItem .write l) rest, append-assoc (item .write (a .0)) p (many signboxItem .write l ++ rest))
-    (item-later (a .0) (p ++ (many signboxItem .write l ++ rest)))
-
-item-follow : (v : SoughtText) (rest : List ℕ) → signboxItem .Valid v → Later rest → signboxItem .Follow v rest
-item-follow v rest ok k = (go (v .1) (ok .1), item-delimited .free (v .0) _ (ok .0))
-  where
-    go : (p : Option (ℕ × ℕ)) → optional coordinate .Valid p → optional coordinate .Follow p rest
-    go none ok = coordinate-absent rest k
-    go (some p) ok = coordinate-delimited .free p rest ok
-
-items-follow : (l : List SoughtText) (v : Option Figures) → many signboxItem .Valid l → FollowAll signboxItem l (variance .write v ++ [])
-items-follow [] v ok = item-absent v
-items-follow (a ∷ l) v ok =
-    (items-follow l v (ok .1), item-follow a _ (ok .0) (items-later l (variance .write v ++ []) (variance-later v)))
-
-figures-follow : (v : Option Figures) → variance .Valid v → variance .Follow v []
-figures-follow none ok = tt
-figures-follow (some f) ok = ((go (f .1), tt), tt)
-  where
-    last : (c : Option ℕ) → optional (digit 0 9) .Follow c []
-    last none = tt
-    last (some c) = tt
-
-    go : (b : Option (ℕ × Option ℕ)) → optional laterFigures .Follow b []
-    go none = tt
-    go (some b) = (last (b .1), tt)
-
-head-follow : (h : Option HeadText) (text : List ℕ) → optional head .Valid h → Later text → optional head .Follow h text
-head-follow none text ok k = head-absent text k
-head-follow (some (inl t)) text ok k = tt
-head-follow (some (inr p)) text ok k =
-    let t = p .1 in
-    let e : p .1 ≡ 84 = omega (arith, ok .1 .0, ok .1 .1) in (
-      byte-other 84 65 (prefixItems .write p ++ text) (λ e. omega arith),
-      (
-        (
-          tt,
-          (
-            all-follow 1 item item-delimited (p .0 .1) (t ∷ text) (ok .0 .1)
-                (absent-other (t ∷ text) (item-not t text (λ z. omega (arith, e, z)) (λ z. omega (arith, e, z)))),
-            item-delimited .free (p .0 .0) _ (ok .0 .0),
-          ),
-        ),
-        tt,
-      ),
-    )
-
-pub query-ready : (v : QueryText) → query .Valid v → query .Follow v []
-query-ready v ok =
-    let l = v .1 .0 in
-    let d = v .1 .1 in
-    let z : (many signboxItem .write l ++ variance .write d) ++ [] ≡ many signboxItem .write l ++ (variance .write d ++ []) = append-assoc (many signboxItem .write l) (variance .write d) [] in (
-      (
-        (figures-follow d (ok .1 .1), items-follow l d (ok .1 .0)),
-        head-follow (v .0) (tail .write (v .1) ++ []) (ok .0) (rw z (items-later l (variance .write d ++ []) (variance-later d))),
-      ),
-      tt,
-    )

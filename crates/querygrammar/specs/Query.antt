@@ -51,8 +51,11 @@ coordinate = point fsw
 abbrev pub SoughtText : Type 0
 SoughtText = ItemText × Option (ℕ × ℕ)
 
+abbrev pub signboxItemWith : Format (ℕ × ℕ) → Format SoughtText
+signboxItemWith point = sequence item λ i. optional point
+
 abbrev pub signboxItem : Format SoughtText
-signboxItem = sequence item λ i. optional coordinate
+signboxItem = signboxItemWith coordinate
 
 -- after the Q: nothing, or T, or A, one or more items, T
 abbrev pub someItems : Format (ItemText × List ItemText)
@@ -84,18 +87,27 @@ variance = optional (after (code "V") figures)
 abbrev pub TailText : Type 0
 TailText = List SoughtText × Option Figures
 
+abbrev pub tailWith : Format (ℕ × ℕ) → Format TailText
+tailWith point = sequence (many (signboxItemWith point)) λ l. variance
+
 abbrev pub tail : Format TailText
-tail = sequence (many signboxItem) λ l. variance
+tail = tailWith coordinate
 
 -- THE QUERY. Its value keeps the digits as they are written.
 abbrev pub QueryText : Type 0
 QueryText = Option HeadText × TailText
 
+abbrev pub afterQWith : Format (ℕ × ℕ) → Format QueryText
+afterQWith point = sequence (optional head) λ h. tailWith point
+
 abbrev pub afterQ : Format QueryText
-afterQ = sequence (optional head) λ h. tail
+afterQ = afterQWith coordinate
+
+abbrev pub queryWith : Format (ℕ × ℕ) → Format QueryText
+queryWith point = after (code "Q") (afterQWith point)
 
 abbrev pub query : Format QueryText
-query = after (code "Q") afterQ
+query = queryWith coordinate
 
 -- WHAT A QUERY MEANS
 

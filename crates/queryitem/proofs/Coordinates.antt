@@ -19,7 +19,8 @@ use Rattle.token.specs.declared.reading.Token.the-variants as token
 use Rattle.token.specs.Token.{tokenAt}
 use Rattle.token.proofs.Told.{Fails, Told, told-at}
 use Rattle.querygrammar.specs.Query.{ItemText, item, coordinate, SoughtText, signboxItem, soughtOf}
-use Rattle.querygrammar.proofs.Open.{delimited-open, Strays, here, later, strays}
+use Rattle.format.proofs.At.{Strays, here, later}
+use Rattle.format.proofs.Loop.{delimited-open, strays}
 use Rattle.querygrammar.proofs.Begun.{optional-over}
 use Rattle.querygrammar.proofs.Query.{item-delimited, coordinate-delimited}
 use Rattle.queryitem.specs.declared.reading.Numbers.{Numbers}

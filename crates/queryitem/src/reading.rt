@@ -1,4 +1,4 @@
-// Reading one item of a query at an offset of a text, byte by byte, so that the place of what is wrong is exact.
+// Reading one item of a query at an offset of a text, byte by byte, so that the place of what is wrong is known.
 ghost use mathlib.Core.Path.{_≡_};
 ghost use Prim.Native.Nat.{_+_, _^_, _≤_};
 ghost use lib.ListN.{length};

@@ -18,7 +18,7 @@ use Rattle.token.specs.Refusal.{textWrong, textShort}
 use Rattle.token.specs.Result.{refusal, done, ofLocated}
 use Rattle.token.proofs.Checks.{refusal-done}
 use Rattle.querygrammar.specs.Query.{Item, keyItem, Sought, ItemText, item, openOf, itemOf}
-use Rattle.querygrammar.proofs.Open.{Open, delimited-open, open-got, open-on, open-stop, open-end, open-bad, open-cut}
+use Rattle.format.proofs.Loop.{Open, delimited-open, open-got, open-on, open-stop, open-end, open-bad, open-cut}
 use Rattle.querygrammar.proofs.Query.{item-delimited, signbox-item-open}
 use Rattle.queryitem.specs.declared.reading.Numbers.{Numbers}
 use Rattle.queryitem.specs.declared.reading.Piece.{Piece}
@@ -71,15 +71,15 @@ module _ {A : Type 0} (f : Format A) (of : A → Item) where
   none-go at false = refl
 
   more-go : (at : ℕ) (n : List ℕ) (l : List A) (a : A) → 1 ≤ at
-      → (orZero (firstReversed (spotsFrom f of (at + length n) (l ++ (a ∷ [])))) ≡ orEarlier (orZero (firstReversed (spotsFrom f of (at + length n) l))) (here (reversed (of a)) (at + length n + length (writeAll f l))))
+      → (orZero (firstReversed (spotsFrom f of (at + length n) (l ++ (a ∷ [])))) ≡ orEarlier (orZero (firstReversed (spotsFrom f of (at + length n) l))) (here (reversed (of a)) (at + length n + length (writeAll (f .write) l))))
       → (t : Bool) → orZero (choose t (some at) (firstReversed (spotsFrom f of (at + length n) (l ++ (a ∷ [])))))
-      ≡ orEarlier (orZero (choose t (some at) (firstReversed (spotsFrom f of (at + length n) l)))) (here (reversed (of a)) (at + length (n ++ writeAll f l)))
-  more-go at n l a h e true = sym (earlier-some at (here (reversed (of a)) (at + length (n ++ writeAll f l))) h)
+      ≡ orEarlier (orZero (choose t (some at) (firstReversed (spotsFrom f of (at + length n) l)))) (here (reversed (of a)) (at + length (n ++ writeAll (f .write) l)))
+  more-go at n l a h e true = sym (earlier-some at (here (reversed (of a)) (at + length (n ++ writeAll (f .write) l))) h)
   more-go at n l a h e false =
-      e ∙ ap (λ i. orEarlier (orZero (firstReversed (spotsFrom f of (at + length n) l))) (here (reversed (of a)) i)) (let q = length-append n (writeAll f l) in omega arith)
+      e ∙ ap (λ i. orEarlier (orZero (firstReversed (spotsFrom f of (at + length n) l))) (here (reversed (of a)) i)) (let q = length-append n (writeAll (f .write) l) in omega arith)
 
   first-more : (at : ℕ) (l : List A) (a : A) → 1 ≤ at
-      → orZero (firstReversed (spotsFrom f of at (l ++ (a ∷ [])))) ≡ orEarlier (orZero (firstReversed (spotsFrom f of at l))) (here (reversed (of a)) (at + length (writeAll f l)))
+      → orZero (firstReversed (spotsFrom f of at (l ++ (a ∷ [])))) ≡ orEarlier (orZero (firstReversed (spotsFrom f of at l))) (here (reversed (of a)) (at + length (writeAll (f .write) l)))
   first-more at [] a h = none-go at (reversed (of a)) ∙ sym (earlier-none (here (reversed (of a)) (at + 0)))
   first-more at (b ∷ l) a h = more-go at (f .write b) l a h (first-more (at + length (f .write b)) l a (omega arith)) (reversed (of b))
 
@@ -147,11 +147,11 @@ sort-open : (boxed : Bool) → Open 1 (sort boxed .format)
 sort-open true = signbox-item-open
 sort-open false = delimited-open 1 item item-delimited
 
-write-more : {A : Type 0} (f : Format A) (l : List A) (a : A) → length (writeAll f (l ++ (a ∷ []))) ≡ length (writeAll f l) + length (f .write a)
+write-more : {A : Type 0} (f : Format A) (l : List A) (a : A) → length (writeAll (f .write) (l ++ (a ∷ []))) ≡ length (writeAll (f .write) l) + length (f .write a)
 write-more f [] a = length-append (f .write a) [] ∙ omega arith
 write-more f (b ∷ l) a =
-    length-append (f .write b) (writeAll f (l ++ (a ∷ []))) ∙ ap (λ n. length (f .write b) + n) (write-more f l a)
-    ∙ (let e = length-append (f .write b) (writeAll f l) in omega arith)
+    length-append (f .write b) (writeAll (f .write) (l ++ (a ∷ []))) ∙ ap (λ n. length (f .write b) + n) (write-more f l a)
+    ∙ (let e = length-append (f .write b) (writeAll (f .write) l) in omega arith)
 
 module _ (boxed : Bool) where
   abbrev f : Format (sort boxed .Says)
@@ -169,7 +169,7 @@ module _ (boxed : Bool) where
     pub walk : Walk (sort boxed .format) s at i done
     pub count : n ≡ length done
     pub few : n ≤ i
-    pub offset : i ≡ at + length (writeAll (sort boxed .format) done)
+    pub offset : i ≡ at + length (writeAll (sort boxed .format .write) done)
     pub noticed : first ≡ orZero (firstReversed (spotsFrom (sort boxed .format) (λ a. sort boxed .sought a .item) at done))
     pub size : length p ≡ wordCount
     pub held : n ≤ 32 → p ≡ sets o from (rowsWords (map (sort boxed .sought) done))

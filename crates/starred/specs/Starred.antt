@@ -1,4 +1,5 @@
 -- The worked examples that document 01 marks with a star, as one statement about the definitions that the contracts cite.
+-- The place in M749x750 is that of document 02, Q-5.
 use Prim.Native.Nat.{ℕ}
 use mathlib.Core.Path.{_≡_}
 use mathlib.Core.List.{List, [], _∷_, _++_}
@@ -30,7 +31,7 @@ pub record StarredRows : Type 0 where
   pub S38b5f : codeRead Fsw (ascii "S38b5f") ≡ record { number = 0; place = 0; code = 62592 }
   pub U40001 : codeText Swu 1 ≡ done (0xf1 ∷ 0x80 ∷ 0x80 ∷ 0x81 ∷ [])
   pub emptySign : (signOf Fsw [] ≡ refusal 2 0) × (signOf Swu [] ≡ refusal 2 0)
-  pub M749x750 : signOf Fsw (ascii "M749x750") ≡ refusal 1 6
+  pub M749x750 : signOf Fsw (ascii "M749x750") ≡ refusal 1 5
   pub M500x500S37f00500x500 : signOf Fsw (ascii "M500x500S37f00500x500") ≡ refusal 1 11
   pub QAS100uuT : verdictIn Fsw (ascii "QAS100uuT") K ≡ answered (met [])
   pub QS100uu490x505 : verdictIn Fsw (ascii "QS100uu490x505") K ≡ answered (met (1 ∷ []))

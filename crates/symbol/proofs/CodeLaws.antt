@@ -41,7 +41,8 @@ symbol-fine : (set : Charset) (text : List ℕ) (code : ℕ)
 symbol-fine set = fine-exactly (tokens set .unit) (anySymbol set) (symbol-fixed set .delimited .lawful) (ready set)
 
 symbol-exact : (set : Charset) → Exact (tokens set .unit) (anySymbol set)
-symbol-exact set = exact set .symbolOrNull lastPunctuation (omega arith) (omega arith)
+symbol-exact Fsw = exact Fsw .symbolOrNull lastPunctuation (omega arith) (omega arith)
+symbol-exact Swu = exact Swu .symbolOrNull lastPunctuation (omega arith) (omega arith)
 
 written-go : (set : Charset) (code : ℕ) (text : List ℕ) (t : Bool) → ltb 62592 code ≡ t
     → choose t (refusal 15 0) (done (anySymbol set .write code)) ≡ done text → (code ≤ 62592) × (anySymbol set .write code ≡ text)

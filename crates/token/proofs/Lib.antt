@@ -2,6 +2,7 @@ pub mod Told
 pub mod Units
 pub mod Digits
 pub mod Keys
+pub mod Atomic
 pub mod Choices
 pub mod Ends
 pub mod Checks

@@ -1,4 +1,4 @@
-// Reading one token at an offset of a text, digit by digit, so that the place of what is wrong is exact.
+// Reading one token at an offset of a text, digit by digit, so that the place of what is wrong is known.
 ghost use mathlib.Core.Path.{_≡_};
 ghost use mathlib.Core.List.{[], _∷_};
 ghost use Prim.Native.Nat.{_+_, _-_, _^_, _≤_, min};
@@ -162,13 +162,13 @@ fn null_at(s: &[u8], at: usize) -> Token
     requires { ⌜ at + 32 ≤ 2 ^ 64 ⌝ }
     ensures { λ r. ⌜ r ≡ tokenAt null (now (s .entry)) at ⌝ }
 {
-    let base = three_at(s, at, 256, 16, 0, 0);
-    let Token::Value(_) = base else {
-        return base;
+    let three = three_at(s, at, 256, 16, 0, 0);
+    let Token::Value(_) = three else {
+        return three;
     };
-    let turn = two_at(s, at + 3, 16, 0, 0);
-    let Token::Value(_) = turn else {
-        return turn;
+    let two = two_at(s, at + 3, 16, 0, 0);
+    let Token::Value(_) = two else {
+        return two;
     };
     Token::Value(0)
 }
@@ -290,7 +290,20 @@ fn fsw_symbol_or_null_at(s: &[u8], at: usize, top: u16) -> Token
     null_or_key_at(s, at + 1, top)
 }
 
-// The second number of a coordinate in FSW, after its x.
+// A number of a coordinate in FSW: a wrong one is told at its first byte.
+fn fsw_number_at(s: &[u8], at: usize) -> Token
+    requires { ⌜ at + 16 ≤ 2 ^ 64 ⌝ }
+    ensures { λ r. ⌜ r ≡ tokenAt (tokens Charset.Fsw .number) (now (s .entry)) at ⌝ }
+{
+    let number = three_at(s, at, 100, 10, LEAST_NUMBER, GREATEST_NUMBER);
+    let Token::Wrong(_) = number else {
+        return number;
+    };
+    Token::Wrong(at)
+}
+
+// The second number of a coordinate in FSW, after its x. It is read by the function that reads the first, which the compiler
+// then leaves out of the loop over the symbols.
 fn fsw_second_at(s: &[u8], at: usize) -> Token
     requires { ⌜ at + 64 ≤ 2 ^ 64 ⌝ }
     ensures { λ r. ⌜ r ≡ tokenAt (tokens Charset.Fsw .second) (now (s .entry)) at ⌝ }
@@ -299,7 +312,7 @@ fn fsw_second_at(s: &[u8], at: usize) -> Token
     let Token::Value(_) = letter else {
         return letter;
     };
-    three_at(s, at + 1, 100, 10, LEAST_NUMBER, GREATEST_NUMBER)
+    number_at(Charset::Fsw, s, at + 1)
 }
 
 // A marker of lo to hi.
@@ -337,11 +350,11 @@ pub fn symbol_or_null_at(set: Charset, s: &[u8], at: usize, top: u16) -> Token
 
 // The first number of a coordinate.
 pub fn number_at(set: Charset, s: &[u8], at: usize) -> Token
-    requires { ⌜ at + 64 ≤ 2 ^ 64 ⌝ }
+    requires { ⌜ at + 32 ≤ 2 ^ 64 ⌝ }
     ensures { λ r. ⌜ r ≡ tokenAt (tokens set .number) (now (s .entry)) at ⌝ }
 {
     match set {
-        Charset::Fsw => three_at(s, at, 100, 10, LEAST_NUMBER, GREATEST_NUMBER),
+        Charset::Fsw => fsw_number_at(s, at),
         Charset::Swu => character_at(s, at, NUMBERS, LEAST_NUMBER, GREATEST_NUMBER),
     }
 }

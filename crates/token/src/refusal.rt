@@ -1,8 +1,8 @@
-// The refusal numbers of document 01, "Refusal numbers". What each place means is said there too.
+// The refusal numbers of document 01, "Refusal numbers". What each place means is said there too, and in document 02, Q-5.
 
 // 0 with place 0
 pub const DONE: u8 = 0;
-// the place is that of the first byte (in SWU the first group) that is not allowed
+// the place is that of the first byte (in SWU the first group) that is not allowed, or of the coordinate number that it is in
 pub const TEXT_WRONG: u8 = 1;
 // the place is the text's length
 pub const TEXT_SHORT: u8 = 2;

@@ -1,7 +1,8 @@
 //! The tokens of both character sets, read one after another.
 //!
 //! Places follow document 01, "Refusal numbers": FSW goes byte by byte, SWU in groups
-//! of four bytes. A text that ends where more was needed is 2 at its length.
+//! of four bytes. A text that ends where more was needed is 2 at its length. A wrong
+//! coordinate number of FSW or of a query is 1 at its first byte (document 02, Q-5).
 
 use crate::symbol::{
     last_code_of, Key, CHARACTER_LENGTH, FIRST_BASE, LAST_LOCATION_BASE, LAST_WRITING_BASE,
@@ -73,8 +74,13 @@ impl Bytes<'_> {
         }
     }
 
+    /// A coordinate number. Whichever byte is wrong, the place is its first.
     pub fn number(&mut self) -> Answer<u16> {
-        self.numeral(10, LEAST_NUMBER, GREATEST_NUMBER)
+        let number = self.numeral(10, LEAST_NUMBER, GREATEST_NUMBER);
+        number.map_err(|refusal| match refusal.number {
+            1 => self.refusal(0),
+            _ => refusal,
+        })
     }
 
     pub fn base(&mut self, last: u16) -> Answer<u16> {

@@ -48,7 +48,7 @@ fn each_refusal_reaches_the_caller() {
     let set = Charset::Fsw;
     let read = |text: &str| refused(halofret::read(set, text.as_bytes()));
     let query = |text: &str| refused(halofret::read_query(text.as_bytes()));
-    assert_eq!(read("M749x750"), (1, 6));
+    assert_eq!(read("M749x750"), (1, 5));
     assert_eq!(read("M250x25"), (2, 7));
     assert_eq!(read(&format!("A{}M500x500", "S10000".repeat(33))), (3, 0));
     assert_eq!(query(&format!("QA{}T", "S10000".repeat(33))), (3, 0));

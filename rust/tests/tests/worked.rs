@@ -1,4 +1,5 @@
-//! The worked examples of document 01 and of its open points, by all sides.
+//! The worked examples of document 01 and of its open points, by all sides. Places in numbers are
+//! those of document 02, Q-5.
 
 use differential::generate::in_swu;
 use differential::{Both, Charset, Interface};
@@ -99,7 +100,7 @@ fn symbol_codes() {
 fn places_of_a_sign() {
     assert_eq!(fsw(""), (2, 0));
     assert_eq!(fsw("M250x25"), (2, 7));
-    assert_eq!(fsw("M749x750"), (1, 6));
+    assert_eq!(fsw("M749x750"), (1, 5));
     assert_eq!(fsw("M500x500S37f00500x500"), (1, 11));
     assert_eq!(fsw("M500x500S38000500x500"), (1, 10));
     assert_eq!(fsw("M500x500S00000500x500"), (1, 9));
@@ -114,7 +115,7 @@ fn places_of_a_sign() {
 fn limits_of_a_sign() {
     let prefix = |count| "A".to_string() + &"S10000".repeat(count);
     let signbox = |count| "M500x500".to_string() + &"S10000500x500".repeat(count);
-    assert_eq!(fsw(prefix(33) + "M500x5y0"), (1, 205));
+    assert_eq!(fsw(prefix(33) + "M500x5y0"), (1, 204));
     assert_eq!(fsw(prefix(33)), (2, 199));
     assert_eq!(fsw(prefix(33) + "M500x500"), (3, 0));
     assert_eq!(fsw(prefix(33) + &signbox(65)), (3, 0));

@@ -5,8 +5,8 @@ use Rattle.token.proofs.reading.number_at.Tie as tie
 enum-told : tie.Need-enum-told
 enum-told c = search needs
 
-three-at-requires : tie.Need-three-at-requires
-three-at-requires c κs = search needs
+fsw-number-at-requires : tie.Need-fsw-number-at-requires
+fsw-number-at-requires c κs = search needs
 
 enum-told-2 : tie.Need-enum-told-2
 enum-told-2 c = search needs
@@ -15,7 +15,7 @@ character-at-requires : tie.Need-character-at-requires
 character-at-requires c κs = search needs
 
 returns : tie.Need-returns
-returns c = rw (c .before .enum-told .given .1) (c .three-at .ensures)
+returns c = rw (c .before .enum-told .given .1) (c .fsw-number-at .ensures)
 
 returns-2 : tie.Need-returns-2
 returns-2 c = rw (c .before .enum-told2 .given .1) (c .character-at .ensures)
@@ -25,7 +25,7 @@ number-at-spec =
     tie.close
     (tie.spec
     enum-told
-    three-at-requires
+    fsw-number-at-requires
     enum-told-2
     character-at-requires
     returns
