@@ -120,10 +120,6 @@ module _ {A B : Type 0} (f : Format A) (g : A → Format B) (s : List ℕ) (at :
   optional-short h e = optional-cut (sequence f g) s at h (ap (λ r. first r then) e)
 
 -- An empty text.
-pub locate-empty : {A : Type 0} (f : Format A) (s : List ℕ) → [] ≡ s → f .read [] ≡ short → locate f s 0 ≡ shortHere
-unfolding locate
-locate-empty f s e o = ap (located (length s) 0) (ap (f .read) (sym e) ∙ o)
-
 pub optional-empty : {A B : Type 0} (f : Format A) (g : A → Format B) (s : List ℕ) → [] ≡ s → f .read [] ≡ short → locate (optional (sequence f g)) s 0 ≡ found none 0
 unfolding locate
 optional-empty {A = A} {B = B} f g s e o =

@@ -24,7 +24,7 @@ module _ (t : Tokens) (x : ExactTokens t) where
   placed-exact f e = sequence-exact (t .unit) f (λ v. point t) e λ v ok. point-exact
 
 module _ (t : Tokens) (l : LawfulTokens t) (x : ExactTokens t) where
-  pub all-exact : {A : Type 0} (n : ℕ) (f : Format A) → Fixed (t .unit) n f → Exact (t .unit) f → Exact (t .unit) (many f)
+  all-exact : {A : Type 0} (n : ℕ) (f : Format A) → Fixed (t .unit) n f → Exact (t .unit) f → Exact (t .unit) (many f)
   all-exact n f d e = many-exact (t .unit) f e (solid (t .unit) f (d .delimited))
 
   symbol-exact : Exact (t .unit) (prefixSymbol t)

@@ -5,7 +5,7 @@ use mathlib.Core.List.{List, [], _∷_, _++_, append-nil}
 use mathlib.Core.Bool.{Bool, true, false}
 use native.Mathlib.Numerals.{add-one}
 use native.Mathlib.Omega.{arith}
-use borrow.Author.Tests.{eqb-true, eqb-false, eq-eqb, ne-eqb}
+use borrow.Author.Tests.{eqb-true, eqb-false, ne-eqb}
 use lib.Dec.{eqb}
 use lib.ListN.{length, getD, set, take, length-set}
 use lib.Seq.{getD-set-same, getD-set-other, getD-take, take-suc, length-take-le}
@@ -98,15 +98,6 @@ module _ (judge : ℕ → ℕ) (flags : List ℕ) where
           → length (choose t (judgedTo judge n flags) (set (judgedTo judge n flags) (suc n) (judge (suc n)))) ≡ length flags
       go true h = h
       go false h = length-set (judgedTo judge n flags) (suc n) (judge (suc n)) ∙ h
-
-  -- one entry more, which is not listed or is judged
-  pub judged-passed : (n : ℕ) → flagOf (judgedTo judge n flags) (n + 1) ≡ 0 → judgedTo judge n flags ≡ judgedTo judge (n + 1) flags
-  unfolding judgedTo
-  judged-passed n z = rw add-one (rw (eq-eqb _ 0 (rw add-one at z)))
-
-  pub judged-more : (n : ℕ) → (flagOf (judgedTo judge n flags) (n + 1) ≡ 0 → ⊥) → set (judgedTo judge n flags) (n + 1) (judge (n + 1)) ≡ judgedTo judge (n + 1) flags
-  unfolding judgedTo
-  judged-more n z = rw add-one (rw (ne-eqb _ 0 (rw add-one at z)))
 
   -- judging an entry changes no other
   judged-still : (n e v : ℕ) → (e ≡ suc n → ⊥) → flagOf (judgedTo judge n flags) e ≡ v → flagOf (judgedTo judge (suc n) flags) e ≡ v

@@ -7,7 +7,6 @@ use native.Mathlib.Omega.{arith}
 use borrow.Author.Tests.{ltb-true, leb-true, lt-ltb, le-ltb, le-leb, lt-leb}
 use lib.Dec.{ltb, leb}
 use lib.ListN.{length, take}
-use lib.Seq.{length-take-le}
 use native.Mathlib.Nat.{add-zero}
 use Rattle.format.specs.Format.{choose, All, keep}
 use Rattle.narrowing.specs.Narrowing.{entriesFrom, upTo, risingOver, rising, listed, firstBad}
@@ -64,13 +63,6 @@ rising-within-over low last count (e ∷ entries) h r =
 pub rising-within : (count : ℕ) (entries : List ℕ) → rising count entries ≡ true → All (λ e. (0 < e) × (e ≤ count)) entries
 rising-within count entries r = rising-within-over 0 0 count entries (omega arith) r
 
--- a rising list has no more entries than count
-rising-most : (last count : ℕ) (entries : List ℕ) → last ≤ count → risingOver last count entries ≡ true → last + length entries ≤ count
-rising-most last count [] h r = omega arith
-rising-most last count (e ∷ entries) h r =
-    let p = rising-parts last count e entries r in
-    omega (arith, p .0, rising-most e count entries (p .1) (p .2))
-
 -- a list that is refused as 11, and one that is not
 module _ (valid : List ℕ → Bool) (list : List ℕ) (n : ℕ) where
   pub listed-short : length list < n → listed valid list n ≡ false
@@ -88,10 +80,6 @@ module _ (valid : List ℕ → Bool) (list : List ℕ) (n : ℕ) where
   pub listed-valid : listed valid list n ≡ true → valid (take n list) ≡ true
   unfolding listed
   listed-valid h = and-eq-true-iff (leb n (length list)) (valid (take n list)) .0 h .1
-
-pub listed-most : (count : ℕ) (list : List ℕ) (n : ℕ) → listed (rising count) list n ≡ true → n ≤ count
-listed-most count list n h =
-    omega (arith, rising-most 0 count (take n list) (omega arith) (listed-valid (rising count) list n h), length-take-le n list (listed-room (rising count) list n h))
 
 pub entries-length : (k n : ℕ) → length (entriesFrom k n) ≡ n
 unfolding entriesFrom

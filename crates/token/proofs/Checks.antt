@@ -12,9 +12,6 @@ refusal-done n p e = absurd (let z : _≡_ {A = ℕ} 0 1 = cc in omega arith)
 
 -- ONE TEST
 
-pub check-passed : {A : Type 0} (test : Bool) (n p : ℕ) (r : Result A) → test ≡ true → check test n p r ≡ r
-check-passed test n p r h = rw h
-
 pub check-failed : {A : Type 0} (test : Bool) (n p : ℕ) (r : Result A) → test ≡ false → check test n p r ≡ refusal n p
 check-failed test n p r h = rw h
 
