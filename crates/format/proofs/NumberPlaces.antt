@@ -3,7 +3,7 @@ use Prim.Native.Nat.{ℕ, zero, suc, _+_, _-_, _≤_, _<_}
 use mathlib.Core.List.{List, [], _∷_, _++_, append-assoc, append-nil}
 use mathlib.Core.Path.{_≡_, refl, sym, ap, _∙_}
 use mathlib.Core.Bool.{Bool, true, false}
-use mathlib.Core.Logic.{_⊎_, inl, inr}
+use mathlib.Core.Logic.{_⊎_, inl, inr, _↔_}
 use lib.Dec.{ltb}
 use lib.ListN.{length, take, drop, length-append, length-drop, take-append-drop}
 use lib.Seq.{take-at, drop-at, take-all, take-append-seam, length-take-le}
@@ -11,8 +11,8 @@ use native.Mathlib.Omega.{arith}
 use borrow.Author.Tests.{ltb-true, ltb-false, le-ltb}
 use Rattle.format.specs.Format.{Answer, value, other, wrong, short, Format, All, first, second, sequence, end, endRead}
 use Rattle.format.specs.Numeral.{Range}
-use Rattle.format.specs.Numbers.{FirstWrong, InNumber, Place, stays, moves, ByNumbers}
-use Rattle.format.specs.Places.{Begins, Formed, Outcome, refused, endsShort, outcome, whole, reading}
+use Rattle.format.specs.Numbers.{InNumber, Place, stays, moves, ByNumbers}
+use Rattle.format.specs.Places.{Begins, Formed, Outcome, refused, endsShort, outcome, whole, reading, FirstWrong}
 use Rattle.format.proofs.Lawful.{Says, Lawful}
 use Rattle.format.proofs.Exact.{Exact, Fails}
 use Rattle.format.proofs.ExactParts.{end-exact}
@@ -166,8 +166,7 @@ module _ (N : Format ℕ) (E : Exact 1 N) (three : (n : ℕ) → N .Valid n → 
       told-go : (s : Answer ℕ) → N .read start ≡ s → Says N start s → Fails 1 N start s → reading 1 t text ≡ refused p
       told-go (wrong rest) e s k = at-p t told (calls .late start rest (led start rest e) e)
       told-go other e s k =
-          let r : reading 1 f text ≡ refused q = by-bytes f l ready .wrong text q .1 (w .begins, w .never) in
-          let z : p ≡ q = same-place (sym (at-p f (l .lawful) (calls .others start digit-led e)) ∙ r) in
+          let z : p ≡ q = same-place (sym (at-p f (l .lawful) (calls .others start digit-led e)) ∙ by-bytes f l ready .wrong text q .1 w) in
           absurd (omega (arith, z, reach .0))
       told-go (value m rest) e s k =
           let y = N .write m in
@@ -191,21 +190,18 @@ module _ (N : Format ℕ) (E : Exact 1 N) (three : (n : ℕ) → N .Valid n → 
       told-there : reading 1 t text ≡ refused p
       told-there = told-go (N .read start) refl (E .lawful .says start) (E .fails start)
 
-    place-at : (text : List ℕ) (p : ℕ) → reading 1 f text ≡ refused p → FirstWrong f text p
-    place-at text p e = let b = by-bytes f l ready .wrong text p .0 e in record { begins = b .0; never = b .1 }
-
-    exact-at : (text : List ℕ) (p : ℕ) → FirstWrong f text p → reading 1 f text ≡ refused p
-    exact-at text p w = by-bytes f l ready .wrong text p .1 (w .begins, w .never)
+    places : (text : List ℕ) (p : ℕ) → (reading 1 f text ≡ refused p) ↔ FirstWrong f text p
+    places = by-bytes f l ready .wrong
 
     forth : (text : List ℕ) (p : ℕ) → reading 1 t text ≡ refused p → Outcomes text → Place f C text p
     forth text p e (alike z) =
-        let w = place-at text p (sym z ∙ e) in
+        let w = places text p .0 (sym z ∙ e) in
         stays w (λ s i. let y : s ≡ p = same-place (sym (told-there text s p w i) ∙ e) in omega (arith, y, reach text s p w i .0))
-    forth text p e (shifted s q a b i) = let y : s ≡ p = same-place (sym b ∙ e) in moves q (place-at text q a) (rw y at i)
+    forth text p e (shifted s q a b i) = let y : s ≡ p = same-place (sym b ∙ e) in moves q (places text q .0 a) (rw y at i)
 
     back : (text : List ℕ) (p : ℕ) → Place f C text p → Outcomes text → reading 1 t text ≡ refused p
-    back text p (stays w none) (alike z) = z ∙ exact-at text p w
-    back text p (stays w none) (shifted s q a b i) = let y : q ≡ p = same-place (sym a ∙ exact-at text p w) in absurd (none s (rw y at i))
+    back text p (stays w none) (alike z) = z ∙ places text p .1 w
+    back text p (stays w none) (shifted s q a b i) = let y : q ≡ p = same-place (sym a ∙ places text p .1 w) in absurd (none s (rw y at i))
     back text p (moves q w i) o = told-there text p q w i
 
     short-forth : (text : List ℕ) → reading 1 t text ≡ endsShort → Outcomes text → reading 1 f text ≡ endsShort
@@ -243,8 +239,9 @@ module _ (N : Format ℕ) (E : Exact 1 N) (three : (n : ℕ) → N .Valid n → 
     place-fro text p (stays w none) = stays (first-fro text p w) none
     place-fro text p (moves q w i) = moves q (first-fro text q w) i
 
-    pub by-numbers : ByNumbers t C
+    pub by-numbers : ByNumbers N t C
     by-numbers = record {
+      stands = λ x c k ok. to (x ++ N .write k) (s .calls x c .begins k ok);
       wrong = λ text p. (λ e. place-to text p (forth text p e (outcomes text)), λ k. back text p (place-fro text p k) (outcomes text));
       short = λ text. (
         λ e. let s = by-bytes f l ready .short text .0 (short-forth text e (outcomes text)) in (to text (s .0), λ k. s .1 (formed-fro text k)),

@@ -11,7 +11,7 @@ use native.Mathlib.Omega.{arith}
 use native.Mathlib.Nat.{suc-mul, mul-one, mul-le-mul-right, lt-of-mul-lt-mul-right}
 use borrow.Author.Tests.{ltb-true, ltb-false}
 use Rattle.format.specs.Format.{Answer, value, other, wrong, short, Format, sequence, end}
-use Rattle.format.specs.Places.{whole, Begins, Formed, Outcome, fine, refused, endsShort, outcome, reading, Refused, EndsShort, Means, ByBytes}
+use Rattle.format.specs.Places.{whole, Begins, Formed, Outcome, fine, refused, endsShort, outcome, reading, Refused, EndsShort, Means, FirstWrong, Unfinished, ByBytes}
 use Rattle.format.proofs.Lawful.{Says}
 use Rattle.format.proofs.Reading.{whole-inverse, whole-written, reads-formed}
 use Rattle.format.proofs.Exact.{Exact, Fails}
@@ -156,20 +156,20 @@ module _ {A : Type 0} (f : Format A) (l : Exact 1 f) (ready : (v : A) → f .Val
       let z : take p text ≡ take (p + 1) text = take-all p text k ∙ sym (take-all (p + 1) text (omega arith)) in
       absurd (n (rw z at b))
 
-  wrong-exactly : (text : List ℕ) (p : ℕ) → (reading 1 f text ≡ refused p) ↔ (Begins f (take p text) × (Begins f (take (p + 1) text) → ⊥))
+  wrong-exactly : (text : List ℕ) (p : ℕ) → (reading 1 f text ≡ refused p) ↔ FirstWrong f text p
   wrong-exactly text p = (
-    λ e. let m = exactly 1 f l ready text (refused p) .0 e in (m .begins, m .never),
+    λ e. let m = exactly 1 f l ready text (refused p) .0 e in record { begins = m .begins; never = m .never },
     λ m. exactly 1 f l ready text (refused p) .1
         (record {
-          inside = inside-go text p (m .0) (m .1) (ltb p (length text)) refl;
+          inside = inside-go text p (m .begins) (m .never) (ltb p (length text)) refl;
           unit = p;
           multiple = sym (mul-one p);
-          begins = m .0;
-          never = m .1;
+          begins = m .begins;
+          never = m .never;
         }),
   )
 
-  short-exactly : (text : List ℕ) → (reading 1 f text ≡ endsShort) ↔ (Begins f text × (Formed f text → ⊥))
+  short-exactly : (text : List ℕ) → (reading 1 f text ≡ endsShort) ↔ Unfinished f text
   short-exactly text = (
     λ e. let m = exactly 1 f l ready text endsShort .0 e in
         let k : m .units * 1 ≡ length text = omega (arith, m .inside, m .less) in

@@ -68,6 +68,13 @@ Means w f text endsShort = EndsShort w f text
 
 -- The same where a unit is a byte, in the words of document 01: the place of 1 is the length of the longest beginning
 -- that some well-formed text shares, and a text that is such a beginning but not well-formed is 2.
+pub record FirstWrong {A : Type 0} (f : Format A) (text : List ℕ) (p : ℕ) : Type 0 where
+  pub begins : Begins f (take p text)
+  pub never : Begins f (take (p + 1) text) → ⊥
+
+abbrev pub Unfinished : {A : Type 0} → Format A → List ℕ → Type 0
+Unfinished f text = Begins f text × (Formed f text → ⊥)
+
 pub record ByBytes {A : Type 0} (f : Format A) : Type 0 where
-  pub wrong : (text : List ℕ) (p : ℕ) → (reading 1 f text ≡ refused p) ↔ (Begins f (take p text) × (Begins f (take (p + 1) text) → ⊥))
-  pub short : (text : List ℕ) → (reading 1 f text ≡ endsShort) ↔ (Begins f text × (Formed f text → ⊥))
+  pub wrong : (text : List ℕ) (p : ℕ) → (reading 1 f text ≡ refused p) ↔ FirstWrong f text p
+  pub short : (text : List ℕ) → (reading 1 f text ≡ endsShort) ↔ Unfinished f text

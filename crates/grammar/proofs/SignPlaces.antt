@@ -123,7 +123,7 @@ sign-numbered =
     (signbox-exact t l (exact Fsw) .some) box-numbered prefix-meets)
 
 -- THE LAW OF PLACES of signs in FSW
-pub fsw-places : ByNumbers (sign Fsw) SignNumber
+pub fsw-places : ByNumbers fswNumber (sign Fsw) SignNumber
 fsw-places =
     by-numbers fswNumber (number-strict .exact) (λ n ok. refl) before SignNumber (signWith t) (sign Fsw) (sign-exact Fsw) (sign-lawful Fsw) (exact-ready Fsw)
     (λ m. refl) (λ m ok. ok) (λ m ok. ok) sign-numbered

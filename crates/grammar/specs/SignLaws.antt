@@ -11,7 +11,7 @@ use Rattle.format.specs.Numbers.{Here, After, ByNumbers}
 use Rattle.charset.specs.declared.Charset.{Charset}
 use Rattle.charset.specs.declared.Charset.the-variants.{Fsw, Swu}
 use Rattle.charset.specs.Bytes.{byte}
-use Rattle.charset.specs.Tokens.{fsw, lastWriting}
+use Rattle.charset.specs.Tokens.{fswNumber, fsw, lastWriting}
 use Rattle.grammar.specs.Sign.{Meaning, Valid, prefix, lead, spatial, sign, signText, readSign}
 
 -- Where coordinate numbers stand in FSW, by what is written before them: the first of a coordinate at its start, the second
@@ -27,7 +27,7 @@ SignNumber = After (optional (prefix fsw)) BoxNumber
 
 -- the law of places: in FSW byte by byte, and a wrong number at its first; in SWU each outcome exactly where it holds (see Means)
 abbrev pub SignPlaces : Charset → Type 0
-SignPlaces Fsw = ByNumbers (sign Fsw) SignNumber
+SignPlaces Fsw = ByNumbers fswNumber (sign Fsw) SignNumber
 SignPlaces Swu = (text : List ℕ) (o : Outcome Meaning) → (readSign Swu text ≡ o) ↔ Means 4 (sign Swu) text o
 
 pub record SignLaws (set : Charset) : Type 0 where

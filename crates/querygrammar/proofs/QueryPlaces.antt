@@ -79,7 +79,7 @@ query-numbered =
     (λ a y ok d start h. tt))
 
 -- THE LAW OF PLACES of queries
-pub query-places : ByNumbers query QueryNumber
+pub query-places : ByNumbers fswNumber query QueryNumber
 query-places =
     by-numbers fswNumber (number-strict .exact) (λ n ok. refl) before QueryNumber (queryWith exactPoint) query query-exact query-lawful exact-ready
     (λ v. refl) (λ v ok. ok) (λ v ok. ok) query-numbered

@@ -51,6 +51,7 @@ coordinate = point fsw
 abbrev pub SoughtText : Type 0
 SoughtText = ItemText × Option (ℕ × ℕ)
 
+-- here and below With is over any format of a coordinate, as the proof of the places needs it
 abbrev pub signboxItemWith : Format (ℕ × ℕ) → Format SoughtText
 signboxItemWith point = sequence item λ i. optional point
 

@@ -7,6 +7,7 @@ use Rattle.format.specs.Format.{optional, many}
 use Rattle.format.specs.Numbers.{After, ByNumbers}
 use Rattle.format.specs.Places.{Outcome, fine, reading}
 use Rattle.charset.specs.Bytes.{byte}
+use Rattle.charset.specs.Tokens.{fswNumber}
 use Rattle.grammar.specs.SignLaws.{PointNumber}
 use Rattle.querygrammar.specs.Query.{item, signboxItem, head, QueryText, query}
 
@@ -23,4 +24,4 @@ pub record QueryLaws : Type 0 where
   pub reads : (t : QueryText) → query .Valid t → readQuery (query .write t) ≡ fine t
   pub writes : (text : List ℕ) (t : QueryText) → readQuery text ≡ fine t → query .Valid t × (text ≡ query .write t)
   -- the law of places: byte by byte, and a wrong number at its first
-  pub places : ByNumbers query QueryNumber
+  pub places : ByNumbers fswNumber query QueryNumber

@@ -16,7 +16,7 @@ use Rattle.verdict.specs.Verdict.{verdictOn, verdictIn}
 use Rattle.bounds.specs.Boxes.{grownAll, groupsOf}
 use Rattle.bounds.specs.Sizes.{firstUnsized, measured}
 use Rattle.moving.specs.Moves.{allOf, movedSign, centredSign, centredText}
-use Rattle.starred.specs.Starred.{SizeOf, StarredRows, OtherRows}
+use Rattle.starred.specs.Starred.{SizeOf, StarredRows, OtherRows, NumberRows}
 
 module _ (sizes : List ℕ) (n : length sizes ≡ 125184) where
   centred-whole : SizeOf sizes 1 15 30 → SizeOf sizes 25057 10 10
@@ -61,4 +61,21 @@ others = record {
   QTR101t205 = refl;
   QT = refl;
   QAR100t38bT = refl;
+}
+
+pub numbers : NumberRows
+unfolding digitOf markerOf signOf queryOf
+numbers = record {
+  M75 = refl;
+  M74 = refl;
+  M24 = refl;
+  M8 = refl;
+  M74y = refl;
+  M749y = refl;
+  M500x5000 = refl;
+  QS10000750x500 = refl;
+  QS1000060x = refl;
+  QS100006 = refl;
+  QS10000S9 = refl;
+  QV1234 = refl;
 }

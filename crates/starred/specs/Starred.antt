@@ -55,3 +55,18 @@ pub record OtherRows : Type 0 where
   pub QTR101t205 : verdictIn Fsw (ascii "QTR101t205") K ≡ answered (met (2 ∷ []))
   pub QT : verdictIn Fsw (ascii "QT") (ascii "M500x500") ≡ answered (unmet 0)
   pub QAR100t38bT : verdictIn Fsw (ascii "QAR100t38bT") (ascii "AS00000M500x500") ≡ answered (unmet 0)
+
+-- the places of numbers, and of what is none (document 02, Q-5)
+pub record NumberRows : Type 0 where
+  pub M75 : signOf Fsw (ascii "M75") ≡ refusal 1 1
+  pub M74 : signOf Fsw (ascii "M74") ≡ refusal 2 3
+  pub M24 : signOf Fsw (ascii "M24") ≡ refusal 1 1
+  pub M8 : signOf Fsw (ascii "M8") ≡ refusal 1 1
+  pub M74y : signOf Fsw (ascii "M74y") ≡ refusal 1 1
+  pub M749y : signOf Fsw (ascii "M749y") ≡ refusal 1 4
+  pub M500x5000 : signOf Fsw (ascii "M500x5000") ≡ refusal 1 8
+  pub QS10000750x500 : queryOf (ascii "QS10000750x500") ≡ refusal 1 7
+  pub QS1000060x : queryOf (ascii "QS1000060x") ≡ refusal 1 7
+  pub QS100006 : queryOf (ascii "QS100006") ≡ refusal 2 8
+  pub QS10000S9 : queryOf (ascii "QS10000S9") ≡ refusal 1 8
+  pub QV1234 : queryOf (ascii "QV1234") ≡ refusal 1 5
