@@ -116,7 +116,8 @@ void halofret_transcribe(bool swu, const uint8_t *text, size_t len, uint8_t *out
 
 /* The boxes of a sign: answer[2..16] has for head, head with trunk, and all: present, left, top,
  * right, bottom. answer[17] and [18] are twice the centre, x then y; centre is the centre itself.
- * Refusals 1, 2, 3, 4, 7, 9, 8. */
+ * x is the middle of the head box, y of the box of head with trunk, and either of the box of all
+ * where there is none. Refusals 1, 2, 3, 4, 7, 9, 8. */
 void halofret_boxes(bool swu, const uint8_t *text, size_t len, const uint8_t *sizes,
                     size_t sizes_len, float centre[2], uint64_t answer[HALOFRET_BOXES_ANSWER]);
 
@@ -125,8 +126,9 @@ void halofret_boxes(bool swu, const uint8_t *text, size_t len, const uint8_t *si
 void halofret_shift(bool swu, const uint8_t *text, size_t len, int32_t dx, int32_t dy,
                     uint8_t *out, size_t room, uint64_t answer[HALOFRET_WRITTEN_ANSWER]);
 
-/* Writes the sign with its centre moved to 500 by 500 and its maximum computed, in its own
- * character set, at the start of out, its length in answer[2].
+/* Writes the sign with its centre, rounded down, moved to 500 by 500 and its maximum computed, in
+ * its own character set, at the start of out, its length in answer[2]. Centring that text again
+ * with the same sizes and room gives it again.
  * Refusals 1, 2, 3, 4, 7, 9, 8, 10, 6. */
 void halofret_centred(bool swu, const uint8_t *text, size_t len, const uint8_t *sizes,
                       size_t sizes_len, uint8_t *out, size_t room,

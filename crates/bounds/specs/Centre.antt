@@ -1,4 +1,4 @@
--- Document 01, "Boxes, shifting, centring": the centre of each axis, doubled and as an f32.
+-- Document 01, "Boxes, shifting, centring", with the axes of document 02, Q-4: the centre of each axis, doubled and as an f32.
 use Prim.Native.Nat.{ℕ, _+_}
 use mathlib.Core.Path.{_≡_}
 use mathlib.Core.Bool.{false}
@@ -26,10 +26,10 @@ pub data Axis : Type 0 where
   horizontal : Axis
   vertical : Axis
 
--- WHICH GROUP SERVES WHICH AXIS (document 003, 7.B.3)
+-- WHICH GROUP SERVES WHICH AXIS (document 02, Q-4; the types hcenter and vcenter of document 002)
 abbrev pub serving : Axis → ℕ
-serving horizontal = headWithTrunk
-serving vertical = head
+serving horizontal = head
+serving vertical = headWithTrunk
 
 abbrev pub boxOf : Groups → ℕ → Box
 boxOf g group = getD (g .boxes) group zeroBox

@@ -10,9 +10,9 @@ use crate::groups::HEAD;
 use crate::groups::HEAD_WITH_TRUNK;
 
 // The group that serves each axis, where it has a symbol.
-const HORIZONTAL: usize = HEAD_WITH_TRUNK;
+const HORIZONTAL: usize = HEAD;
 
-const VERTICAL: usize = HEAD;
+const VERTICAL: usize = HEAD_WITH_TRUNK;
 
 // Twice the centre of each axis.
 pub struct Doubled {

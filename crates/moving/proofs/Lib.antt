@@ -6,4 +6,5 @@ pub mod Writings
 pub mod Unmoved
 pub mod Along
 pub mod Recentred
+pub mod Repeated
 pub mod Laws

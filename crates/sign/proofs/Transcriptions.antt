@@ -7,13 +7,12 @@ use Rattle.charset.specs.declared.Charset.{Charset}
 use Rattle.charset.specs.declared.Charset.the-variants.{Fsw, Swu}
 use Rattle.grammar.specs.Sign.{Meaning, signText}
 use Rattle.grammar.proofs.SignLaws.{sign-laws}
-use Rattle.token.specs.Result.{done, onDone, written}
-use Rattle.token.proofs.Checks.{Counted, onDone-done}
-use Rattle.token.proofs.Results.{onDone-refusal}
-use Rattle.writer.proofs.Answers.{accepted, answers-room}
+use Rattle.token.specs.Result.{done, onDone, written, leftText, Leaves}
+use Rattle.token.proofs.Checks.{Counted, onDone-done, onDone-counted}
+use Rattle.writer.proofs.Answers.{accepted, leaves}
 use Rattle.reader.specs.Signs.{signOf}
 use Rattle.reader.proofs.Limits.{limited-sign, sign-counted}
-use Rattle.sign.specs.Transcription.{otherSet, transcription, otherText, Returned, TranscriptionLaws}
+use Rattle.sign.specs.Transcription.{otherSet, transcription, TranscriptionLaws}
 use Rattle.sign.proofs.Transcribing.{Within, sign-within, sign-reads}
 
 -- what is within the limits is read back from its text, in either set
@@ -53,15 +52,13 @@ back set text other e =
 -- a call that was accepted, and the one back
 counted : (set : Charset) (text : List ℕ) → Counted (transcription set text)
 unfolding transcription
-counted set text n p e = sign-counted set text n p (onDone-refusal (signText (otherSet set)) (signOf set text) n p e)
+counted set text = onDone-counted (signText (otherSet set)) (signOf set text) (sign-counted set text)
 
-returned : (set : Charset) (text out room : List ℕ) → written out (transcription set text) .number ≡ 0 → length text ≤ length room → Returned set text out room
+returned : (set : Charset) (text out room : List ℕ) → written out (transcription set text) .number ≡ 0 → length text ≤ length room
+    → Leaves room (transcription (otherSet set) (leftText out (transcription set text))) text
 returned set text out room h l =
     let a = accepted out (transcription set text) (counted set text) h in
-    let e : transcription (otherSet set) (otherText set text out) ≡ done text =
-    ap (transcription (otherSet set)) (a .front) ∙ back set text (a .text) (a .is) in
-    let r = answers-room room e l in
-    record { answer = sym (r .0); memory = sym (r .1) }
+    leaves room (ap (transcription (otherSet set)) (a .front) ∙ back set text (a .text) (a .is)) l
 
 pub transcription-laws : TranscriptionLaws
 transcription-laws = record { equal = equal; back = back; returned = returned }

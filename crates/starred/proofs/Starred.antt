@@ -16,7 +16,7 @@ use Rattle.verdict.specs.Verdict.{verdictOn, verdictIn}
 use Rattle.bounds.specs.Boxes.{grownAll, groupsOf}
 use Rattle.bounds.specs.Sizes.{firstUnsized, measured}
 use Rattle.moving.specs.Moves.{allOf, movedSign, centredSign, centredText}
-use Rattle.starred.specs.Starred.{SizeOf, StarredRows, OtherRows, NumberRows}
+use Rattle.starred.specs.Starred.{SizeOf, StarredRows, OtherRows, NumberRows, CentringRows}
 
 module _ (sizes : List ℕ) (n : length sizes ≡ 125184) where
   centred-whole : SizeOf sizes 1 15 30 → SizeOf sizes 25057 10 10
@@ -24,8 +24,18 @@ module _ (sizes : List ℕ) (n : length sizes ≡ 125184) where
   unfolding centredText signOf digitOf markerOf centredSign measured firstUnsized groupsOf keep grownAll movedSign allOf
   centred-whole a b = rw (eq-eqb (length sizes) 125184 n, a .width, a .height, b .width, b .height)
 
-  centred-head : SizeOf sizes 49057 36 36 → SizeOf sizes 59617 60 20
-      → centredText Fsw (ascii "M540x540S2ff00482x483S36d00470x520") sizes ≡ done (ascii "M530x539S2ff00482x482S36d00470x519")
+  centred-groups : SizeOf sizes 49057 36 36 → SizeOf sizes 59617 60 20
+      → centredText Fsw (ascii "M540x540S2ff00482x483S36d00470x520") sizes ≡ done (ascii "M530x529S2ff00482x472S36d00470x509")
+  unfolding centredText signOf digitOf markerOf centredSign measured firstUnsized groupsOf keep grownAll movedSign allOf
+  centred-groups a b = rw (eq-eqb (length sizes) 125184 n, a .width, a .height, b .width, b .height)
+
+  centred-trunk : SizeOf sizes 59617 60 20 → SizeOf sizes 1 15 30
+      → centredText Fsw (ascii "M535x540S36d00470x520S10000520x470") sizes ≡ done (ascii "M533x510S36d00468x490S10000518x440")
+  unfolding centredText signOf digitOf markerOf centredSign measured firstUnsized groupsOf keep grownAll movedSign allOf
+  centred-trunk a b = rw (eq-eqb (length sizes) 125184 n, a .width, a .height, b .width, b .height)
+
+  centred-head : SizeOf sizes 49057 36 36 → SizeOf sizes 1 15 30
+      → centredText Fsw (ascii "M550x560S2ff00490x480S10000535x530") sizes ≡ done (ascii "M542x562S2ff00482x482S10000527x532")
   unfolding centredText signOf digitOf markerOf centredSign measured firstUnsized groupsOf keep grownAll movedSign allOf
   centred-head a b = rw (eq-eqb (length sizes) 125184 n, a .width, a .height, b .width, b .height)
 
@@ -44,7 +54,7 @@ starred = record {
   QS100uu490x506 = refl;
   QR204t100 = refl;
   centred = centred-whole;
-  centredByHead = centred-head;
+  centredByGroups = centred-groups;
 }
 
 pub others : OtherRows
@@ -79,3 +89,6 @@ numbers = record {
   QS10000S9 = refl;
   QV1234 = refl;
 }
+
+pub centrings : CentringRows
+centrings = record { trunk = centred-trunk; head = centred-head }

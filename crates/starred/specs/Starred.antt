@@ -1,5 +1,5 @@
 -- The worked examples that document 01 marks with a star, as one statement about the definitions that the contracts cite.
--- The place in M749x750 is that of document 02, Q-5.
+-- The place in M749x750 is that of document 02, Q-5, and the second sign is centred by its Q-4.
 use Prim.Native.Nat.{ℕ}
 use mathlib.Core.Path.{_≡_}
 use mathlib.Core.List.{List, [], _∷_, _++_}
@@ -39,8 +39,8 @@ pub record StarredRows : Type 0 where
   pub QR204t100 : queryOf (ascii "QR204t100") ≡ refusal 5 1
   pub centred : (sizes : List ℕ) → length sizes ≡ 125184 → SizeOf sizes 1 15 30 → SizeOf sizes 25057 10 10
       → centredText Fsw (ascii "M520x515S10000490x490S20500500x500") sizes ≡ done (ascii "M510x515S10000490x485S20500500x495")
-  pub centredByHead : (sizes : List ℕ) → length sizes ≡ 125184 → SizeOf sizes 49057 36 36 → SizeOf sizes 59617 60 20
-      → centredText Fsw (ascii "M540x540S2ff00482x483S36d00470x520") sizes ≡ done (ascii "M530x539S2ff00482x482S36d00470x519")
+  pub centredByGroups : (sizes : List ℕ) → length sizes ≡ 125184 → SizeOf sizes 49057 36 36 → SizeOf sizes 59617 60 20
+      → centredText Fsw (ascii "M540x540S2ff00482x483S36d00470x520") sizes ≡ done (ascii "M530x529S2ff00482x472S36d00470x509")
 
 -- the other examples of the sheet whose answers are stated, and four of the null symbol, of T and of ranges
 pub record OtherRows : Type 0 where
@@ -70,3 +70,10 @@ pub record NumberRows : Type 0 where
   pub QS100006 : queryOf (ascii "QS100006") ≡ refusal 2 8
   pub QS10000S9 : queryOf (ascii "QS10000S9") ≡ refusal 1 8
   pub QV1234 : queryOf (ascii "QV1234") ≡ refusal 1 5
+
+-- a trunk without head, and a head without trunk, each beside a hand (document 02, Q-4)
+pub record CentringRows : Type 0 where
+  pub trunk : (sizes : List ℕ) → length sizes ≡ 125184 → SizeOf sizes 59617 60 20 → SizeOf sizes 1 15 30
+      → centredText Fsw (ascii "M535x540S36d00470x520S10000520x470") sizes ≡ done (ascii "M533x510S36d00468x490S10000518x440")
+  pub head : (sizes : List ℕ) → length sizes ≡ 125184 → SizeOf sizes 49057 36 36 → SizeOf sizes 1 15 30
+      → centredText Fsw (ascii "M550x560S2ff00490x480S10000535x530") sizes ≡ done (ascii "M542x562S2ff00482x482S10000527x532")

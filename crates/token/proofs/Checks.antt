@@ -48,6 +48,10 @@ pub andThen-counted : {A B : Type 0} (r : Result A) (next : A → Result B) → 
 andThen-counted (refusal k q) next c d n p e = c n p (cc)
 andThen-counted (done a) next c d n p e = d a n p e
 
+pub onDone-counted : {A B : Type 0} (to : A → B) (r : Result A) → Counted r → Counted (onDone to r)
+onDone-counted to (refusal k q) c n p e = c n p (cc)
+onDone-counted to (done a) c n p e = done-counted (to a) n p e
+
 pub outcome-counted : {A : Type 0} (size : ℕ) (o : Outcome A) → Counted (ofOutcome size o)
 outcome-counted size (fine a) = done-counted a
 outcome-counted size (refused i) = refusal-counted 1 i (lit< tt)

@@ -1,9 +1,10 @@
 -- What a call comes to, and how it is answered.
 use Prim.Native.Nat.{ℕ}
+use mathlib.Core.Path.{_≡_}
 use mathlib.Core.List.{List, _++_}
 use mathlib.Core.Bool.{Bool}
 use lib.Dec.{ltb}
-use lib.ListN.{length, drop}
+use lib.ListN.{length, take, drop}
 use Rattle.format.specs.Format.{Format, choose}
 use Rattle.format.specs.Places.{Outcome, fine, refused, endsShort}
 use Rattle.format.specs.Located.{Located, found, wrongAt, shortHere, locate}
@@ -70,3 +71,12 @@ written out r = writtenAs (inRoom (length out) r)
 
 unfoldable pub output : List ℕ → Result (List ℕ) → List ℕ
 output out r = leftAs out (inRoom (length out) r)
+
+-- the text that a call leaves at the start of the lent memory, as many bytes as it answers
+abbrev pub leftText : List ℕ → Result (List ℕ) → List ℕ
+leftText out r = take (written out r .length) (output out r)
+
+-- Lent the memory out, a call that comes to r answers 0 and leaves this text at its start, and the rest as it was.
+pub record Leaves (out : List ℕ) (r : Result (List ℕ)) (text : List ℕ) : Type 0 where
+  pub answer : written out r ≡ record { number = 0; place = 0; length = length text }
+  pub memory : output out r ≡ text ++ drop (length text) out

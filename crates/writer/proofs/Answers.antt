@@ -1,17 +1,17 @@
 -- What a call that writes a text answers and leaves in the lent memory, in each of its cases.
 use Prim.Native.Nat.{ℕ, _≤_, _<_}
-use mathlib.Core.Path.{_≡_, refl}
+use mathlib.Core.Path.{_≡_, refl, sym, ap, _∙_}
 use mathlib.Core.List.{List, _++_}
 use mathlib.Core.Bool.{Bool, true, false}
 use lib.Dec.{ltb}
-use borrow.Author.Tests.{lt-ltb, le-ltb}
-use lib.ListN.{length, take, drop}
-use lib.Seq.{take-append-seam}
+use borrow.Author.Tests.{ltb-false, lt-ltb, le-ltb}
+use lib.ListN.{length, take, drop, length-append}
+use lib.Seq.{take-append-seam, drop-append-seam}
 use native.Mathlib.Omega.{arith}
 use Rattle.format.specs.Format.{choose}
 use Rattle.token.specs.declared.Written.{Written}
 use Rattle.token.specs.Refusal.{roomShort}
-use Rattle.token.specs.Result.{Result, refusal, done, writtenAs, leftAs, written, output}
+use Rattle.token.specs.Result.{Result, refusal, done, writtenAs, written, output, leftText, Leaves}
 use Rattle.token.proofs.Checks.{Counted}
 use Rattle.token.specs.Wrote.{Wrote}
 use Rattle.writer.proofs.Writes.{wrote-all}
@@ -40,23 +40,34 @@ answers-done {o} {text = text} e w =
     (rw (e, h, wrote-all w .0), rw (e, h) (wrote-all w .1))
 
 -- a call that has room for its text
-pub answers-room : (o : List ℕ) {x : Result (List ℕ)} {text : List ℕ} → x ≡ done text → length text ≤ length o
-    → Answers o x (record { number = 0; place = 0; length = length text }) (text ++ drop (length text) o)
+pub leaves : (o : List ℕ) {x : Result (List ℕ)} {text : List ℕ} → x ≡ done text → length text ≤ length o → Leaves o x text
 unfolding written output
-answers-room o {text = text} e l = let h = le-ltb (length o) (length text) l in (rw (e, h), rw (e, h))
+leaves o {text = text} e l = let h = le-ltb (length o) (length text) l in record { answer = rw (e, h); memory = rw (e, h) }
 
--- a call whose number is 0 wrote its text at the start
+-- lent the memory as a call left it, one that comes to the same text changes no byte
+pub left-again : (o : List ℕ) {x y : Result (List ℕ)} {text : List ℕ} → x ≡ done text → y ≡ done text → length text ≤ length o → output (output o x) y ≡ output o x
+left-again o {x} {text = text} e f l =
+    let first = leaves o e l .memory in
+    let room : length text ≤ length (output o x) = rw (first, length-append text (drop (length text) o)) (omega arith) in
+    leaves (output o x) f room .memory ∙ ap (λ m. text ++ drop (length text) m) first ∙ ap (λ m. text ++ m) (drop-append-seam text (drop (length text) o)) ∙ sym first
+
+-- a call whose number is 0 had room for its text, and wrote it at the start
 pub record Accepted (o : List ℕ) (x : Result (List ℕ)) : Type 0 where
   pub text : List ℕ
   pub is : x ≡ done text
-  pub front : take (written o x .length) (output o x) ≡ text
+  pub fits : length text ≤ length o
+  pub front : leftText o x ≡ text
 
-accepted-go : (o text : List ℕ) (short : Bool) → writtenAs (choose short (refusal roomShort (length text)) (done text)) .number ≡ 0
-    → take (writtenAs (choose short (refusal roomShort (length text)) (done text)) .length) (leftAs o (choose short (refusal roomShort (length text)) (done text))) ≡ text
-accepted-go o text true z = absurd (omega (arith, z))
-accepted-go o text false z = take-append-seam text (drop (length text) o)
+fitting : (o text : List ℕ) (short : Bool) → ltb (length o) (length text) ≡ short → writtenAs (choose short (refusal roomShort (length text)) (done text)) .number ≡ 0 → length text ≤ length o
+fitting o text true e z = absurd (omega (arith, z))
+fitting o text false e z = ltb-false (length o) (length text) e
+
+front-left : (o : List ℕ) {x : Result (List ℕ)} {text : List ℕ} → Leaves o x text → leftText o x ≡ text
+front-left o {text = text} l = (λ i. take (l .answer i .length) (l .memory i)) ∙ take-append-seam text (drop (length text) o)
 
 pub accepted : (o : List ℕ) (x : Result (List ℕ)) → Counted x → written o x .number ≡ 0 → Accepted o x
-unfolding written output
+unfolding written
 accepted o (refusal n p) c z = absurd (omega (arith, c n p refl, z))
-accepted o (done text) c z = record { text = text; is = refl; front = accepted-go o text (ltb (length o) (length text)) z }
+accepted o (done text) c z =
+    let fits = fitting o text (ltb (length o) (length text)) refl z in
+    record { text = text; is = refl; fits = fits; front = front-left o (leaves o refl fits) }

@@ -114,7 +114,8 @@ impl Boxes {
         }
     }
 
-    /// The centre, x then y.
+    /// The centre, x then y: the middle of the head box, and that of the box of head and trunk;
+    /// of the box of all symbols where there is none.
     pub fn centre(&self) -> (f32, f32) {
         self.centre
     }

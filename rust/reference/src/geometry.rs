@@ -1,4 +1,5 @@
-//! Boxes, centres, shifting and centring (document 01, "Boxes, shifting, centring").
+//! Boxes, centres, shifting and centring (document 01, "Boxes, shifting, centring"; the centre
+//! by document 02, Q-4).
 
 use crate::sign::{read_into, write, Placed, Sign};
 use crate::symbol::{base_of, LAST_CODE};
@@ -37,10 +38,10 @@ pub struct Boxes {
 }
 
 impl Boxes {
-    /// Twice the centre, x then y: whole numbers.
+    /// Twice the centre, x then y: whole numbers. The head serves x, and head with trunk y.
     pub fn doubled_centre(&self) -> (u16, u16) {
-        let across = self.head_and_trunk.unwrap_or(self.all);
-        let down = self.head.unwrap_or(self.all);
+        let across = self.head.unwrap_or(self.all);
+        let down = self.head_and_trunk.unwrap_or(self.all);
         (across.left + across.right, down.top + down.bottom)
     }
 

@@ -1,8 +1,9 @@
 //! Boxes, shifting and centring, with every kind of size list, pair and room.
 
 use differential::damage::{damaged, noise};
-use differential::generate::{in_swu, sign, sizes};
+use differential::generate::{in_swu, short_sign, sign, sizes};
 use differential::{cases, Both, Charset, Interface, Random, Tally, BOTH_SETS};
+use std::collections::BTreeSet;
 
 /// Most symbols sized, few unsized, many unsized, and lists of wrong lengths.
 fn size_lists() -> Vec<Vec<u8>> {
@@ -66,6 +67,25 @@ fn boxes() {
     }
 }
 
+/// The head serves x, head with trunk serves y, and the whole box either where its group has no
+/// symbol.
+#[test]
+fn axes() {
+    let lists = size_lists();
+    let mut met = BTreeSet::new();
+    cases(150_000, 10_000, |random| {
+        let (_, answer) = Both.boxes(Charset::Fsw, &short_sign(random), &lists[0]);
+        let (head, body, all) = (&answer[2..7], &answer[7..12], &answer[12..17]);
+        let across = if head[0] == 1 { head } else { all };
+        let down = if body[0] == 1 { body } else { all };
+        assert_eq!(answer[17..], [across[1] + across[3], down[2] + down[4]]);
+        met.insert((all[0], head[0], body[0], head == body));
+    });
+    let (no_symbol, neither) = ((0, 0, 0, true), (1, 0, 0, true));
+    let (trunk, head, both) = ((1, 0, 1, false), (1, 1, 1, true), (1, 1, 1, false));
+    assert_eq!(met, [no_symbol, neither, trunk, head, both].into());
+}
+
 #[test]
 fn centring() {
     let lists = size_lists();
@@ -79,7 +99,7 @@ fn centring() {
                 let answer = Both.centred(set, &text, sizes, &mut out);
                 tally.note(answer[0]);
                 if answer[0] == 0 {
-                    centred_again(set, &out[..answer[2] as usize], sizes);
+                    centred_again(set, sizes, &out, answer);
                 }
             }
         });
@@ -87,11 +107,16 @@ fn centring() {
     }
 }
 
-/// A centred sign stays as it is.
-fn centred_again(set: Charset, text: &[u8], sizes: &[u8]) {
-    let mut again = vec![0; text.len()];
-    assert_eq!(Both.centred(set, text, sizes, &mut again)[0], 0);
-    assert_eq!(again, text);
+/// The text that was written is centred again with the same room: the answer and the text are
+/// the same, and in the memory as it was left no byte changes.
+fn centred_again(set: Charset, sizes: &[u8], left: &[u8], answer: [u64; 3]) {
+    let (text, rest) = left.split_at(answer[2] as usize);
+    let mut again = left.to_vec();
+    assert_eq!(Both.centred(set, text, sizes, &mut again), answer);
+    assert_eq!(again, left);
+    let mut fresh = vec![b'!'; left.len()];
+    assert_eq!(Both.centred(set, text, sizes, &mut fresh), answer);
+    assert_eq!(fresh, [text, &vec![b'!'; rest.len()]].concat());
 }
 
 fn step(random: &mut Random) -> i32 {

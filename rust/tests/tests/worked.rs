@@ -225,7 +225,19 @@ fn centring() {
     let head_and_trunk = sizes(&[("S2ff00", 36, 36), ("S36d00", 60, 20)]);
     assert_eq!(
         centred("M540x540S2ff00482x483S36d00470x520", &head_and_trunk).unwrap(),
-        "M530x539S2ff00482x482S36d00470x519"
+        "M530x529S2ff00482x472S36d00470x509"
+    );
+    // Trunk without head: across by the whole box, down by the trunk.
+    let trunk_and_hand = sizes(&[("S36d00", 60, 20), ("S10000", 15, 30)]);
+    assert_eq!(
+        centred("M535x540S36d00470x520S10000520x470", &trunk_and_hand).unwrap(),
+        "M533x510S36d00468x490S10000518x440"
+    );
+    // Head without trunk: both by the head.
+    let head_and_hand = sizes(&[("S2ff00", 36, 36), ("S10000", 15, 30)]);
+    assert_eq!(
+        centred("M550x560S2ff00490x480S10000535x530", &head_and_hand).unwrap(),
+        "M542x562S2ff00482x482S10000527x532"
     );
     // 499.5 moves by 1 and 500.5 by 0.
     let odd = sizes(&[("S10000", 11, 11)]);
@@ -251,14 +263,15 @@ fn boxes() {
     let (centre, answer) = Both.boxes(Fsw, b"M540x540S2ff00482x483S36d00470x520", &sizes);
     assert_eq!(answer[..7], [0, 0, 1, 482, 483, 518, 519]);
     assert_eq!(answer[7..12], [1, 470, 483, 530, 540]);
-    assert_eq!(answer[12..], [1, 470, 483, 530, 540, 1_000, 1_002]);
-    assert_eq!(centre, [500.0, 501.0]);
-    // Trunk without head: across from the trunk, down from the whole box.
+    assert_eq!(answer[12..], [1, 470, 483, 530, 540, 1_000, 1_023]);
+    assert_eq!(centre, [500.0, 511.5]);
+    // Trunk without head: across by the whole box, down by the trunk.
     let (centre, answer) = Both.boxes(Fsw, b"M500x500S36d00470x520S10000749x749", &sizes);
     assert_eq!(answer[2..7], [0; 5]);
+    assert_eq!(answer[7..12], [1, 470, 520, 530, 540]);
     assert_eq!(answer[12..17], [1, 470, 520, 1_004, 1_004]);
-    assert_eq!(answer[17..], [1_000, 1_524]);
-    assert_eq!(centre, [500.0, 762.0]);
+    assert_eq!(answer[17..], [1_474, 1_060]);
+    assert_eq!(centre, [737.0, 530.0]);
     assert_eq!(Both.boxes(Fsw, b"M500x500", &sizes).1[..2], [9, 0]);
     assert_eq!(Both.boxes(Fsw, b"M500x500", &[]).1[..2], [7, 0]);
 }
