@@ -116,8 +116,8 @@ void halofret_transcribe(bool swu, const uint8_t *text, size_t len, uint8_t *out
 
 /* The boxes of a sign: answer[2..16] has for head, head with trunk, and all: present, left, top,
  * right, bottom. answer[17] and [18] are twice the centre, x then y; centre is the centre itself.
- * x is the middle of the head box, y of the box of head with trunk, and either of the box of all
- * where there is none. Refusals 1, 2, 3, 4, 7, 9, 8. */
+ * x is the middle of the head box, y that of the box of head with trunk; each that of the box of
+ * all where its own is not present. Refusals 1, 2, 3, 4, 7, 9, 8. */
 void halofret_boxes(bool swu, const uint8_t *text, size_t len, const uint8_t *sizes,
                     size_t sizes_len, float centre[2], uint64_t answer[HALOFRET_BOXES_ANSWER]);
 

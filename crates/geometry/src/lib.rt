@@ -107,7 +107,7 @@ pub fn shift(set: Charset, text: &[u8], dx: i32, dy: i32, out: &mut [u8]) -> Wri
     )
 }
 
-// Writes a sign with its centre at 500, and the whole box's maximum as the stated one: refused as 1 to 4 by the reader, then as 7, 9, 8, 10, 6.
+// Writes a sign with its centre, rounded down, at 500, and the whole box's maximum as the stated one: refused as 1 to 4 by the reader, then as 7, 9, 8, 10, 6.
 pub fn centred(set: Charset, text: &[u8], sizes: &[u8], out: &mut [u8]) -> Written
     ensures answer { λ r. ⌜ r ≡ written (now (out .entry)) (centredText set (now (text .entry)) (now (sizes .entry))) ⌝ }
     ensures memory { λ r. ⌜ now (out .exit) ≡ output (now (out .entry)) (centredText set (now (text .entry)) (now (sizes .entry))) ⌝ }

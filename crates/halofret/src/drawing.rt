@@ -46,7 +46,7 @@ pub extern "C" fn halofret_shift(
     *answer = written_numbers(geometry::shift(set_of(swu), text, dx, dy, out));
 }
 
-// Writes a sign with its centre at 500, and the whole box's maximum as the stated one.
+// Writes a sign with its centre, rounded down, at 500, and the whole box's maximum as the stated one.
 #[no_mangle]
 pub extern "C" fn halofret_centred(
     swu: bool,

@@ -10,7 +10,7 @@ use lib.ListN.{length}
 use Rattle.charset.specs.declared.Charset.{Charset}
 use Rattle.grammar.specs.Sign.{Meaning, signText}
 use Rattle.token.specs.Refusal.{numberOutside}
-use Rattle.token.specs.Result.{andThen, written, output, Leaves}
+use Rattle.token.specs.Result.{andThen, written, Leaves, Unchanged}
 use Rattle.token.proofs.Checks.{Counted, done-counted, check-counted, onDone-counted, andThen-counted}
 use Rattle.writer.proofs.Answers.{Accepted, accepted, leaves, left-again}
 use Rattle.reader.specs.Signs.{signOf}
@@ -19,7 +19,7 @@ use Rattle.bounds.specs.Sizes.{measured}
 use Rattle.bounds.specs.Centre.{doubledOf}
 use Rattle.bounds.proofs.Measuring.{measured-counted}
 use Rattle.moving.specs.Moves.{stays, allOf, xsOf, ysOf, movedMeaning, movedSign, toMiddle, restated, centredBy, centredSign, centredText}
-use Rattle.moving.specs.MovingLaws.{centredLeft}
+use Rattle.moving.specs.MovingLaws.{centredIn}
 use Rattle.moving.proofs.Recentred.{again}
 
 moved-counted : (dx dy : ℤ) (m : Meaning) → Counted (movedSign dx dy m)
@@ -39,8 +39,8 @@ module _ (set : Charset) (sizes text out : List ℕ) (h : written out (centredTe
   first : Accepted out (centredText set text sizes)
   first = accepted out (centredText set text sizes) (counted set sizes text) h
 
-  pub repeated : (room : List ℕ) → length out ≤ length room → Leaves room (centredText set (centredLeft set text sizes out) sizes) (centredLeft set text sizes out)
+  pub repeated : (room : List ℕ) → length out ≤ length room → Leaves room (centredText set (centredIn set text sizes out) sizes) (centredIn set text sizes out)
   repeated room l = rw (first .front) (leaves room (again set sizes text (first .text) (first .is)) (omega (arith, first .fits, l)))
 
-  pub unchanged : output (output out (centredText set text sizes)) (centredText set (centredLeft set text sizes out) sizes) ≡ output out (centredText set text sizes)
+  pub unchanged : Unchanged out (centredText set text sizes) (centredText set (centredIn set text sizes out) sizes)
   unchanged = rw (first .front) (left-again out (first .is) (again set sizes text (first .text) (first .is)) (first .fits))

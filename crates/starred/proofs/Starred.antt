@@ -29,6 +29,11 @@ module _ (sizes : List ℕ) (n : length sizes ≡ 125184) where
   unfolding centredText signOf digitOf markerOf centredSign measured firstUnsized groupsOf keep grownAll movedSign allOf
   centred-groups a b = rw (eq-eqb (length sizes) 125184 n, a .width, a .height, b .width, b .height)
 
+  centred-both : SizeOf sizes 49057 36 36 → SizeOf sizes 59617 60 20 → SizeOf sizes 1 15 30
+      → centredText Fsw (ascii "M560x560S2ff00490x483S36d00480x520S10000545x530") sizes ≡ done (ascii "M552x549S2ff00482x472S36d00472x509S10000537x519")
+  unfolding centredText signOf digitOf markerOf centredSign measured firstUnsized groupsOf keep grownAll movedSign allOf
+  centred-both a b c = rw (eq-eqb (length sizes) 125184 n, a .width, a .height, b .width, b .height, c .width, c .height)
+
   centred-trunk : SizeOf sizes 59617 60 20 → SizeOf sizes 1 15 30
       → centredText Fsw (ascii "M535x540S36d00470x520S10000520x470") sizes ≡ done (ascii "M533x510S36d00468x490S10000518x440")
   unfolding centredText signOf digitOf markerOf centredSign measured firstUnsized groupsOf keep grownAll movedSign allOf
@@ -91,4 +96,4 @@ numbers = record {
 }
 
 pub centrings : CentringRows
-centrings = record { trunk = centred-trunk; head = centred-head }
+centrings = record { both = centred-both; trunk = centred-trunk; head = centred-head }

@@ -1,5 +1,5 @@
 -- The worked examples that document 01 marks with a star, as one statement about the definitions that the contracts cite.
--- The place in M749x750 is that of document 02, Q-5, and the second sign is centred by its Q-4.
+-- The place in M749x750 is that of document 02, Q-5, and the second centred sign is that of its Q-4.
 use Prim.Native.Nat.{ℕ}
 use mathlib.Core.Path.{_≡_}
 use mathlib.Core.List.{List, [], _∷_, _++_}
@@ -71,8 +71,10 @@ pub record NumberRows : Type 0 where
   pub QS10000S9 : queryOf (ascii "QS10000S9") ≡ refusal 1 8
   pub QV1234 : queryOf (ascii "QV1234") ≡ refusal 1 5
 
--- a trunk without head, and a head without trunk, each beside a hand (document 02, Q-4)
+-- head and trunk, a trunk without head, and a head without trunk, each beside a hand (document 02, Q-4)
 pub record CentringRows : Type 0 where
+  pub both : (sizes : List ℕ) → length sizes ≡ 125184 → SizeOf sizes 49057 36 36 → SizeOf sizes 59617 60 20 → SizeOf sizes 1 15 30
+      → centredText Fsw (ascii "M560x560S2ff00490x483S36d00480x520S10000545x530") sizes ≡ done (ascii "M552x549S2ff00482x472S36d00472x509S10000537x519")
   pub trunk : (sizes : List ℕ) → length sizes ≡ 125184 → SizeOf sizes 59617 60 20 → SizeOf sizes 1 15 30
       → centredText Fsw (ascii "M535x540S36d00470x520S10000520x470") sizes ≡ done (ascii "M533x510S36d00468x490S10000518x440")
   pub head : (sizes : List ℕ) → length sizes ≡ 125184 → SizeOf sizes 49057 36 36 → SizeOf sizes 1 15 30

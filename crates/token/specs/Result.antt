@@ -80,3 +80,8 @@ leftText out r = take (written out r .length) (output out r)
 pub record Leaves (out : List ℕ) (r : Result (List ℕ)) (text : List ℕ) : Type 0 where
   pub answer : written out r ≡ record { number = 0; place = 0; length = length text }
   pub memory : output out r ≡ text ++ drop (length text) out
+
+-- Lent the memory as a call that came to r left it, one that comes to s gives the same answer and changes no byte.
+pub record Unchanged (out : List ℕ) (r s : Result (List ℕ)) : Type 0 where
+  pub answer : written (output out r) s ≡ written out r
+  pub memory : output (output out r) s ≡ output out r

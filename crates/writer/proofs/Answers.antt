@@ -11,7 +11,7 @@ use native.Mathlib.Omega.{arith}
 use Rattle.format.specs.Format.{choose}
 use Rattle.token.specs.declared.Written.{Written}
 use Rattle.token.specs.Refusal.{roomShort}
-use Rattle.token.specs.Result.{Result, refusal, done, writtenAs, written, output, leftText, Leaves}
+use Rattle.token.specs.Result.{Result, refusal, done, writtenAs, written, output, leftText, Leaves, Unchanged}
 use Rattle.token.proofs.Checks.{Counted}
 use Rattle.token.specs.Wrote.{Wrote}
 use Rattle.writer.proofs.Writes.{wrote-all}
@@ -44,12 +44,16 @@ pub leaves : (o : List ℕ) {x : Result (List ℕ)} {text : List ℕ} → x ≡ 
 unfolding written output
 leaves o {text = text} e l = let h = le-ltb (length o) (length text) l in record { answer = rw (e, h); memory = rw (e, h) }
 
--- lent the memory as a call left it, one that comes to the same text changes no byte
-pub left-again : (o : List ℕ) {x y : Result (List ℕ)} {text : List ℕ} → x ≡ done text → y ≡ done text → length text ≤ length o → output (output o x) y ≡ output o x
+-- lent the memory as a call left it, one that comes to the same text answers the same and changes no byte
+pub left-again : (o : List ℕ) {x y : Result (List ℕ)} {text : List ℕ} → x ≡ done text → y ≡ done text → length text ≤ length o → Unchanged o x y
 left-again o {x} {text = text} e f l =
-    let first = leaves o e l .memory in
-    let room : length text ≤ length (output o x) = rw (first, length-append text (drop (length text) o)) (omega arith) in
-    leaves (output o x) f room .memory ∙ ap (λ m. text ++ drop (length text) m) first ∙ ap (λ m. text ++ m) (drop-append-seam text (drop (length text) o)) ∙ sym first
+    let first = leaves o e l in
+    let room : length text ≤ length (output o x) = rw (first .memory, length-append text (drop (length text) o)) (omega arith) in
+    let second = leaves (output o x) f room in
+    record {
+      answer = second .answer ∙ sym (first .answer);
+      memory = second .memory ∙ ap (λ m. text ++ drop (length text) m) (first .memory) ∙ ap (λ m. text ++ m) (drop-append-seam text (drop (length text) o)) ∙ sym (first .memory);
+    }
 
 -- a call whose number is 0 had room for its text, and wrote it at the start
 pub record Accepted (o : List ℕ) (x : Result (List ℕ)) : Type 0 where

@@ -114,8 +114,8 @@ impl Boxes {
         }
     }
 
-    /// The centre, x then y: the middle of the head box, and that of the box of head and trunk;
-    /// of the box of all symbols where there is none.
+    /// The centre: x is the middle of the head box, y that of the box of head and trunk; each
+    /// that of the box of all symbols where its own is absent.
     pub fn centre(&self) -> (f32, f32) {
         self.centre
     }

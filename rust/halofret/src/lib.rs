@@ -156,7 +156,9 @@ pub fn shift(
     written(&answer)
 }
 
-/// Writes a sign centred on 500 by 500, in its own character set; answers the length.
+/// Writes a sign with its centre, rounded down, moved to 500 by 500 and its maximum computed, in
+/// its own character set; answers the length. Centring that text again with the same sizes and
+/// room gives it again.
 pub fn centred(
     charset: Charset,
     text: &[u8],

@@ -59,7 +59,7 @@ extern "C" {
         answer: *mut [u64; 3],
     );
 
-    /// Writes a sign centred on 500 by 500.
+    /// Writes a sign with its centre, rounded down, moved to 500 by 500.
     pub fn halofret_centred(
         swu: bool,
         text: *const u8,

@@ -227,18 +227,6 @@ fn centring() {
         centred("M540x540S2ff00482x483S36d00470x520", &head_and_trunk).unwrap(),
         "M530x529S2ff00482x472S36d00470x509"
     );
-    // Trunk without head: across by the whole box, down by the trunk.
-    let trunk_and_hand = sizes(&[("S36d00", 60, 20), ("S10000", 15, 30)]);
-    assert_eq!(
-        centred("M535x540S36d00470x520S10000520x470", &trunk_and_hand).unwrap(),
-        "M533x510S36d00468x490S10000518x440"
-    );
-    // Head without trunk: both by the head.
-    let head_and_hand = sizes(&[("S2ff00", 36, 36), ("S10000", 15, 30)]);
-    assert_eq!(
-        centred("M550x560S2ff00490x480S10000535x530", &head_and_hand).unwrap(),
-        "M542x562S2ff00482x482S10000527x532"
-    );
     // 499.5 moves by 1 and 500.5 by 0.
     let odd = sizes(&[("S10000", 11, 11)]);
     assert_eq!(
@@ -255,6 +243,34 @@ fn centring() {
     assert_eq!(answer, [2, 6, 0]);
     let too_far = "M500x500S10000250x500S10000749x500";
     assert_eq!(centred(too_far, &odd), Err((10, 0)));
+}
+
+/// A head, a trunk or both beside a hand.
+#[test]
+fn centring_by_groups() {
+    let sizes = sizes(&[("S2ff00", 36, 36), ("S36d00", 60, 20), ("S10000", 15, 30)]);
+    let sign = "M560x560S2ff00490x483S36d00480x520S10000545x530";
+    assert_eq!(
+        centred(sign, &sizes).unwrap(),
+        "M552x549S2ff00482x472S36d00472x509S10000537x519"
+    );
+    // Trunk without head: across by the whole box, down by the trunk.
+    assert_eq!(
+        centred("M535x540S36d00470x520S10000520x470", &sizes).unwrap(),
+        "M533x510S36d00468x490S10000518x440"
+    );
+    let too_high = "M500x500S36d00470x250S10000490x700";
+    assert_eq!(centred(too_high, &sizes), Err((10, 0)));
+    // Head without trunk: both by the head.
+    assert_eq!(
+        centred("M550x560S2ff00490x480S10000535x530", &sizes).unwrap(),
+        "M542x562S2ff00482x482S10000527x532"
+    );
+    // By the head alone this one would be refused.
+    assert_eq!(
+        centred("M500x500S2ff00482x250S36d00470x700", &sizes).unwrap(),
+        "M530x735S2ff00482x265S36d00470x715"
+    );
 }
 
 #[test]
