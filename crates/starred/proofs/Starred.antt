@@ -18,34 +18,8 @@ use Rattle.bounds.specs.Sizes.{firstUnsized, measured}
 use Rattle.moving.specs.Moves.{allOf, movedSign, centredSign, centredText}
 use Rattle.starred.specs.Starred.{SizeOf, StarredRows, OtherRows, NumberRows, CentringRows}
 
-module _ (sizes : List ℕ) (n : length sizes ≡ 125184) where
-  centred-whole : SizeOf sizes 1 15 30 → SizeOf sizes 25057 10 10
-      → centredText Fsw (ascii "M520x515S10000490x490S20500500x500") sizes ≡ done (ascii "M510x515S10000490x485S20500500x495")
-  unfolding centredText signOf digitOf markerOf centredSign measured firstUnsized groupsOf keep grownAll movedSign allOf
-  centred-whole a b = rw (eq-eqb (length sizes) 125184 n, a .width, a .height, b .width, b .height)
-
-  centred-groups : SizeOf sizes 49057 36 36 → SizeOf sizes 59617 60 20
-      → centredText Fsw (ascii "M540x540S2ff00482x483S36d00470x520") sizes ≡ done (ascii "M530x529S2ff00482x472S36d00470x509")
-  unfolding centredText signOf digitOf markerOf centredSign measured firstUnsized groupsOf keep grownAll movedSign allOf
-  centred-groups a b = rw (eq-eqb (length sizes) 125184 n, a .width, a .height, b .width, b .height)
-
-  centred-both : SizeOf sizes 49057 36 36 → SizeOf sizes 59617 60 20 → SizeOf sizes 1 15 30
-      → centredText Fsw (ascii "M560x560S2ff00490x483S36d00480x520S10000545x530") sizes ≡ done (ascii "M552x549S2ff00482x472S36d00472x509S10000537x519")
-  unfolding centredText signOf digitOf markerOf centredSign measured firstUnsized groupsOf keep grownAll movedSign allOf
-  centred-both a b c = rw (eq-eqb (length sizes) 125184 n, a .width, a .height, b .width, b .height, c .width, c .height)
-
-  centred-trunk : SizeOf sizes 59617 60 20 → SizeOf sizes 1 15 30
-      → centredText Fsw (ascii "M535x540S36d00470x520S10000520x470") sizes ≡ done (ascii "M533x510S36d00468x490S10000518x440")
-  unfolding centredText signOf digitOf markerOf centredSign measured firstUnsized groupsOf keep grownAll movedSign allOf
-  centred-trunk a b = rw (eq-eqb (length sizes) 125184 n, a .width, a .height, b .width, b .height)
-
-  centred-head : SizeOf sizes 49057 36 36 → SizeOf sizes 1 15 30
-      → centredText Fsw (ascii "M550x560S2ff00490x480S10000535x530") sizes ≡ done (ascii "M542x562S2ff00482x482S10000527x532")
-  unfolding centredText signOf digitOf markerOf centredSign measured firstUnsized groupsOf keep grownAll movedSign allOf
-  centred-head a b = rw (eq-eqb (length sizes) 125184 n, a .width, a .height, b .width, b .height)
-
 pub starred : StarredRows
-unfolding codeRead codeText digitOf markerOf signOf queryOf verdictIn verdictOn verdictOf prefixHolds satisfies judged witnessesOf serves
+unfolding codeRead codeText digitOf markerOf signOf queryOf verdictIn verdictOn verdictOf prefixHolds satisfies judged witnessesOf serves centredText centredSign measured firstUnsized groupsOf keep grownAll movedSign allOf
 starred = record {
   S10019 = refl;
   S2ea04 = refl;
@@ -58,8 +32,8 @@ starred = record {
   QS100uu490x505 = refl;
   QS100uu490x506 = refl;
   QR204t100 = refl;
-  centred = centred-whole;
-  centredByGroups = centred-groups;
+  centred = λ sizes n a b. rw (eq-eqb (length sizes) 125184 n, a .width, a .height, b .width, b .height);
+  centredByGroups = λ sizes n a b. rw (eq-eqb (length sizes) 125184 n, a .width, a .height, b .width, b .height);
 }
 
 pub others : OtherRows
@@ -96,4 +70,9 @@ numbers = record {
 }
 
 pub centrings : CentringRows
-centrings = record { both = centred-both; trunk = centred-trunk; head = centred-head }
+unfolding centredText signOf digitOf markerOf centredSign measured firstUnsized groupsOf keep grownAll movedSign allOf
+centrings = record {
+  both = λ sizes n a b c. rw (eq-eqb (length sizes) 125184 n, a .width, a .height, b .width, b .height, c .width, c .height);
+  trunk = λ sizes n a b. rw (eq-eqb (length sizes) 125184 n, a .width, a .height, b .width, b .height);
+  head = λ sizes n a b. rw (eq-eqb (length sizes) 125184 n, a .width, a .height, b .width, b .height);
+}

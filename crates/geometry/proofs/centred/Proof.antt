@@ -1,6 +1,5 @@
 use denote.Ref.{now}
 use Rattle.sign.proofs.Transcribing.{lies}
-use Rattle.bounds.specs.Centre.{all, boxOf}
 use Rattle.geometry.proofs.Answering.{coded, centred-unread, centred-unmeasured, centred-done}
 use borrow.Author.Needs.{needs}
 use Rattle.geometry.proofs.centred.Statement.{statement}
@@ -42,7 +41,7 @@ to-middle-requires-2 c κs = search needs
 write-moved-requires : tie.Need-write-moved-requires
 write-moved-requires c κs =
     let l = lies (c .before .before .before .before .before .before .before .before .before .before .before .before .before .before .before .before .before .before .before .before .before .before .before .before .args .set) (now (c .before .before .before .before .before .before .before .before .before .before .before .before .before .before .before .before .before .before .before .before .before .before .before .before .args .text)) _ _ _ _ _ (c .before .before .before .before .before .before .before .before .before .before .before .before .before .before .before .before .read-into .ensures) (c .before .before .before .before .before .before .before .before .before .before .before .before .before .before .before .if1 .left) in
-    (l .array-length, l .codes-length, l .xs-length, l .ys-length, l .prefix-most, l .symbols-most, c .before .before .before .before .before .before .to-middle .ensures .small, c .before .before .before .before .before .to-middle2 .ensures .small, coded (c .before .before .before .before .before .before .before .before .before .before .before .before .before .before .before .before .before .before .before .before .before .before .before .before .args .set) (now (c .before .before .before .before .before .before .before .before .before .before .before .before .before .before .before .before .before .before .before .before .before .before .before .before .args .text)) _ _ _ _ _ (c .before .before .before .before .before .before .before .before .before .before .before .before .before .before .before .before .read-into .ensures) (c .before .before .before .before .before .before .before .before .before .before .before .before .before .before .before .if1 .left) (boxOf (c .before .before .before .before .before .before .before .before .before .before .before .measure .result .groups) all .right) (boxOf (c .before .before .before .before .before .before .before .before .before .before .before .measure .result .groups) all .bottom))
+    (l .array-length, l .codes-length, l .xs-length, l .ys-length, l .prefix-most, l .symbols-most, c .before .before .before .before .before .before .to-middle .ensures .small, c .before .before .before .before .before .to-middle2 .ensures .small, coded (c .before .before .before .before .before .before .before .before .before .before .before .before .before .before .before .before .before .before .before .before .before .before .before .before .args .set) (now (c .before .before .before .before .before .before .before .before .before .before .before .before .before .before .before .before .before .before .before .before .before .before .before .before .args .text)) _ _ _ _ _ (c .before .before .before .before .before .before .before .before .before .before .before .before .before .before .before .before .read-into .ensures) (c .before .before .before .before .before .before .before .before .before .before .before .before .before .before .before .if1 .left) _ _)
 
 same-length : tie.Need-same-length
 same-length c = search needs

@@ -26,7 +26,7 @@ of-requires-2 c κs = search needs
 write-moved-requires : tie.Need-write-moved-requires
 write-moved-requires c κs =
     let l = lies (c .before .before .before .before .before .before .before .before .before .before .before .before .before .before .before .args .set) (now (c .before .before .before .before .before .before .before .before .before .before .before .before .before .before .before .args .text)) _ _ _ _ _ (c .before .before .before .before .before .before .before .before .read-into .ensures) (c .before .before .before .before .before .before .before .if1 .left) in
-    (l .array-length, l .codes-length, l .xs-length, l .ys-length, l .prefix-most, l .symbols-most, c .before .before .before .before .before .before .of .ensures .small, c .before .before .before .before .before .of2 .ensures .small, coded (c .before .before .before .before .before .before .before .before .before .before .before .before .before .before .before .args .set) (now (c .before .before .before .before .before .before .before .before .before .before .before .before .before .before .before .args .text)) _ _ _ _ _ (c .before .before .before .before .before .before .before .before .read-into .ensures) (c .before .before .before .before .before .before .before .if1 .left) (c .before .before .before .before .before .before .before .before .read-into .result .«max_x») (c .before .before .before .before .before .before .before .before .read-into .result .«max_y»))
+    (l .array-length, l .codes-length, l .xs-length, l .ys-length, l .prefix-most, l .symbols-most, c .before .before .before .before .before .before .of .ensures .small, c .before .before .before .before .before .of2 .ensures .small, coded (c .before .before .before .before .before .before .before .before .before .before .before .before .before .before .before .args .set) (now (c .before .before .before .before .before .before .before .before .before .before .before .before .before .before .before .args .text)) _ _ _ _ _ (c .before .before .before .before .before .before .before .before .read-into .ensures) (c .before .before .before .before .before .before .before .if1 .left) _ _)
 
 same-length : tie.Need-same-length
 same-length c = search needs
