@@ -29,7 +29,7 @@
 #include <stddef.h>
 #include <stdint.h>
 
-#define HALOFRET_VERSION "0.1.0"
+#define HALOFRET_VERSION "0.2.0"
 
 #ifdef __cplusplus
 extern "C" {
@@ -71,7 +71,7 @@ enum {
     HALOFRET_MOST_SYMBOLS = 64,
     HALOFRET_MOST_ITEMS = 32,
     HALOFRET_MOST_LINES = 65535,
-    HALOFRET_SIGN = 229
+    HALOFRET_SIGN = 325
 };
 
 /* The lengths of the answers. */
@@ -104,7 +104,9 @@ void halofret_code_to_char(uint64_t code, uint8_t *out, size_t room,
                            uint64_t answer[HALOFRET_WRITTEN_ANSWER]);
 
 /* Reads a sign. Writes to sign: marker (1 B, 2 L, 3 M, 4 R), maximum x, maximum y, prefix count,
- * symbol count, then 32 prefix codes, 64 symbol codes, 64 x and 64 y, zeros in unused places.
+ * symbol count, then 32 prefix codes, 64 symbol codes, 64 x and 64 y, then 32 prefix offsets and 64
+ * symbol offsets, zeros in unused places. An offset is that of the byte of text where the symbol's
+ * key, in SWU its character, begins. A sign and its transcription agree in the first 229 numbers.
  * Refusals 1, 2, 3, 4. */
 void halofret_read(bool swu, const uint8_t *text, size_t len, uint16_t sign[HALOFRET_SIGN],
                    uint64_t answer[HALOFRET_READ_ANSWER]);

@@ -15,6 +15,8 @@ use Rattle.grammar.specs.Sign.{Meaning, signText}
 use Rattle.token.specs.Result.{Result, refusal, done, onDone}
 use Rattle.reader.specs.Signs.{signOf}
 use Rattle.sign.specs.Transcription.{otherSet, transcription}
+use Rattle.sign.specs.OffsetLaws.{ReadAlike}
+use Rattle.sign.proofs.OffsetLaws.{one-meaning, meant-alike}
 use Rattle.sign.proofs.Transcriptions.{transcription-laws}
 use Rattle.lines.specs.Lines.{lines, ended, firstLine, lineOf, bytesOf}
 use Rattle.lines.specs.LineLaws.{Plain}
@@ -51,7 +53,8 @@ line-sign set line = go (signOf set line) refl
     go (refusal number place) k h = absurd (true≢false (sym h))
     go (done m) k h =
         let e : transcription set line ≡ done (signText (otherSet set) m) = ap (onDone (signText (otherSet set))) k in
-        ap (λ r. signOf (otherSet set) (textOf r)) e ∙ transcription-laws .equal set line (signText (otherSet set) m) e ∙ k
+        let a = one-meaning (otherSet set) (signText (otherSet set) m) set line (transcription-laws .equal set line (signText (otherSet set) m) e) in
+        ap (λ r. signOf (otherSet set) (textOf r)) e ∙ a .1 .0 ∙ sym (a .1 .1) ∙ k
 
 lines-sign : (set : Charset) (ls : List (List ℕ)) → ((i : ℕ) → i < length ls → isDone (signOf set (getD ls i [])) ≡ true)
     → (i : ℕ) → signOf (otherSet set) (getD (map (otherLine set) ls) i []) ≡ signOf set (getD ls i [])
@@ -90,3 +93,13 @@ same-book t s = λ i. record { ended = (line-laws .closed ls ∙ sym (s .whole))
     sign e =
         ap (λ l. signOf (otherSet (t .0)) (getD l (e - 1) [])) back
         ∙ lines-sign (t .0) (lines (t .1)) (λ i h. let z : suc i - 1 ≡ i = omega arith in rw z at (is-read (bookOf t) s (suc i) (omega arith) h)) (e - 1)
+
+-- and its lines read as signs equal in all but offsets
+pub lines-alike : (t : Text) → Sound (bookOf t) → (e : ℕ) → 0 < e → e ≤ bookOf t .count
+    → ReadAlike (otherSet (t .0)) (lineOf (rewritten (t .0) (t .1)) e) (t .0) (lineOf (t .1) e)
+lines-alike t s e l h = go (signOf (t .0) (lineOf (t .1) e)) refl (is-read (bookOf t) s e l h)
+  where
+    go : (r : Result Meaning) → signOf (t .0) (lineOf (t .1) e) ≡ r → isDone r ≡ true → ReadAlike (otherSet (t .0)) (lineOf (rewritten (t .0) (t .1)) e) (t .0) (lineOf (t .1) e)
+    go (refusal number place) k h = absurd (true≢false (sym h))
+    go (done m) k h =
+        meant-alike (otherSet (t .0)) (lineOf (rewritten (t .0) (t .1)) e) (t .0) (lineOf (t .1) e) m (ap (λ b. b .sign e) (same-book t s) ∙ k) k

@@ -11,26 +11,18 @@ use lib.Seq.{drop-cons, drop-length}
 use borrow.Author.Tests.{eq-eqb, ne-eqb, eqb-true, lt-ltb, le-ltb, ltb-true}
 use Rattle.format.specs.Format.{choose, All}
 use Rattle.format.specs.Numeral.{Range}
+use Rattle.format.proofs.Lists.{all-map, all-weaker}
 use Rattle.charset.specs.Tokens.{lastCode, lastWriting}
 use Rattle.grammar.specs.Sign.{Spatial, ValidSymbol}
 use Rattle.token.specs.Refusal.{sizesLength, noSymbols, symbolUnsized}
 use Rattle.token.specs.Result.{refusal, done}
 use Rattle.token.proofs.Checks.{check-done, Counted, done-counted, check-counted}
 use Rattle.writer.specs.Arrays.{upto, at, symbolAt}
-use Rattle.writer.proofs.Upto.{upto-length, map-upto}
-use Rattle.sign.proofs.Transcribing.{upto-at}
+use Rattle.writer.proofs.Upto.{upto-length, upto-at, map-upto}
 use Rattle.bounds.specs.declared.groups.Groups.{Groups}
 use Rattle.bounds.specs.Boxes.{groupsOf}
 use Rattle.bounds.specs.Sizes.{hasSize, firstUnsized, unsizedSymbol, measured}
 use Rattle.bounds.specs.Inner.{Codes, Symbols}
-
-all-map : {A B : Type 0} (P : B → Type 0) (f : A → B) (l : List A) → All (λ a. P (f a)) l → All P (map f l)
-all-map P f [] ok = tt
-all-map P f (a ∷ l) ok = (ok .0, all-map P f l (ok .1))
-
-pub all-weaker : {A : Type 0} (P Q : A → Type 0) → ((a : A) → P a → Q a) → (l : List A) → All P l → All Q l
-all-weaker P Q f [] ok = tt
-all-weaker P Q f (a ∷ l) ok = (f a (ok .0), all-weaker P Q f l (ok .1))
 
 pub symbols-codes : (codes xs ys : List ℕ) (n : ℕ) → Symbols codes xs ys n → Codes codes n
 symbols-codes codes xs ys n ok =

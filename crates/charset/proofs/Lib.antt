@@ -3,3 +3,4 @@ pub mod Units
 pub mod Keys
 pub mod Sets
 pub mod Numbers
+pub mod Texts

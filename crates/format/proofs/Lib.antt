@@ -1,3 +1,4 @@
+pub mod Lists
 pub mod Lawful
 pub mod Sequence
 pub mod Parts

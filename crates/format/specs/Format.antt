@@ -131,6 +131,13 @@ abbrev pub All : {A : Type 0} → (A → Type 0) → List A → Type 0
 All P [] = Unit
 All P (a ∷ l) = P a × All P l
 
+-- two lists are equally long, and R holds of their elements one by one
+abbrev pub Pairwise : {A B : Type 0} → (A → B → Type 0) → List A → List B → Type 0
+Pairwise R [] [] = Unit
+Pairwise R [] (b ∷ m) = ⊥
+Pairwise R (a ∷ l) [] = ⊥
+Pairwise R (a ∷ l) (b ∷ m) = R a b × Pairwise R l m
+
 -- those of a list that pass a test, in their order
 unfoldable pub keep : {A : Type 0} → (A → Bool) → List A → List A
 keep test [] = []

@@ -4,10 +4,8 @@ use mathlib.Core.Path.{_≡_, refl, sym, ap, _∙_}
 use mathlib.Core.List.{List}
 use native.Mathlib.Omega.{arith}
 use lib.IntN.{ℤ}
-use Rattle.format.specs.Numeral.{Range}
 use Rattle.charset.specs.declared.Charset.{Charset}
-use Rattle.charset.specs.Tokens.{lastCode, lastWriting}
-use Rattle.grammar.specs.Sign.{Spatial, Meaning, ValidSymbol, signText}
+use Rattle.grammar.specs.Sign.{Spatial, Meaning, signText}
 use Rattle.token.specs.declared.Written.{Written}
 use Rattle.token.specs.Result.{Result, refusal, done, onDone, andThen}
 use Rattle.writer.proofs.Answers.{Answers, answers-refused}
@@ -23,10 +21,11 @@ use Rattle.bounds.specs.declared.centre.Doubled.{Doubled}
 use Rattle.bounds.specs.Sizes.{measured}
 use Rattle.bounds.specs.Centre.{doubledOf}
 use Rattle.bounds.specs.Inner.{measuredAs}
-use Rattle.bounds.proofs.Measuring.{all-weaker, measured-counted}
+use Rattle.bounds.proofs.Measuring.{measured-counted}
 use Rattle.moving.specs.Moves.{movedSign, shiftedText, toMiddle, restated, centredBy, centredSign, centredText}
 use Rattle.geometry.specs.Geometry.{boundsAs, boundsOf}
 use Rattle.moving.specs.Inner.{Coded}
+use Rattle.moving.proofs.Signs.{coded-of}
 
 -- what measuring came to, by the number that it answered
 module _ (sizes : List ℕ) (l : List Spatial) (m : Measured) (is : m ≡ measuredAs (measured sizes l)) where
@@ -78,13 +77,7 @@ module _ (set : Charset) (s : List ℕ) (h : Head) (array codes xs ys : List ℕ
 
     -- valid but for the maximum, whatever that is
     pub coded : (right bottom : ℕ) → Coded (meaningIn (h .marker) right bottom (h .«prefix_count») (h .«symbol_count») array codes xs ys)
-    coded right bottom =
-        let l = lies set s h array codes xs ys v z .valid in
-        record {
-          prefix = l .prefix;
-          marker = l .marker;
-          codes = all-weaker ValidSymbol (λ t. Range 1 (lastCode lastWriting) (t .code)) (λ t k. k .0) (upto (symbolAt codes xs ys) (h .«symbol_count»)) (l .symbols);
-        }
+    coded right bottom = coded-of lying right bottom (lies set s h array codes xs ys v z .valid)
 
     pub shift-done : (o p : List ℕ) (dx dy a b : ℤ) (r : Written) → a ≡ dx → b ≡ dy → Answers o (onDone (signText set) (movedSign a b lying)) r p
         → Answers o (shiftedText set s dx dy) r p

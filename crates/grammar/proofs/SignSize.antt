@@ -28,7 +28,7 @@ module _ (set : Charset) where
   abbrev t : Tokens
   t = tokens set
 
-  prefix-size : (l : List ℕ) → optional (prefix t) .Valid (ofPrefix l) → length (optional (prefix t) .write (ofPrefix l)) ≡ prefixSize set (length l)
+  pub prefix-size : (l : List ℕ) → optional (prefix t) .Valid (ofPrefix l) → length (optional (prefix t) .write (ofPrefix l)) ≡ prefixSize set (length l)
   prefix-size [] ok = refl
   prefix-size (a ∷ l) ok =
       let x = symbol-fixed t (lawful set) in
@@ -74,7 +74,7 @@ full-valid = record {
   symbols = all-replicate ValidSymbol (record { code = 1; x = 250; y = 250 }) ((omega arith, omega arith), ((omega arith, omega arith), (omega arith, omega arith))) 64;
 }
 
-size-most : (set : Charset) (p n : ℕ) → p ≤ 32 → n ≤ 64 → signSize set p n ≤ longest set
+pub size-most : (set : Charset) (p n : ℕ) → p ≤ 32 → n ≤ 64 → signSize set p n ≤ longest set
 size-most Fsw zero n h k = omega arith
 size-most Fsw (suc p) n h k = omega arith
 size-most Swu zero n h k = omega arith

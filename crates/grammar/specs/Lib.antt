@@ -1,3 +1,4 @@
 pub mod Sign
 pub mod Size
+pub mod Offsets
 pub mod SignLaws

@@ -5,32 +5,21 @@ use mathlib.Core.Path.{_≡_, refl, ap, _∙_}
 use native.Mathlib.Omega.{arith}
 use Rattle.charset.specs.declared.Charset.{Charset}
 use Rattle.reader.specs.declared.arrays.Head.{Head}
-use Rattle.reader.specs.Signs.{signOf}
 use Rattle.reader.specs.Inner.{ReadInto}
 use Rattle.reader.proofs.Limits.{Known, not-read, was-read, known}
-use Rattle.sign.specs.Reading.{readingOf}
+use Rattle.sign.specs.Reading.{readingOf, readingIn}
+use Rattle.sign.specs.Inner.{signIn}
 use Rattle.sign.proofs.Readings.{reading-done}
-use Rattle.sign.proofs.Transcribing.{sign-within}
 use Rattle.layout.specs.Layouts.{readingNumbers, signNumbers, signLeft}
-use Rattle.layout.specs.Inner.{signIn, Counted}
 use Rattle.halofret.proofs.Left.{when-refused}
 
 module _ (set : Charset) (text : List ℕ) (h : Head) (prefix codes xs ys : List ℕ) (v : ReadInto set text h prefix codes xs ys) where
-  pub counted : h .number ≡ 0 → Counted h
-  counted z = go (known set text h prefix codes xs ys v)
-    where
-      go : Known set text h prefix codes xs ys → Counted h
-      go (not-read q n) = absurd (omega arith)
-      go (was-read m q k a) =
-          let w = sign-within set text m q in
-          record { prefix = rw (ap (λ h. h .«prefix_count») k) (w .prefix); symbols = rw (ap (λ h. h .«symbol_count») k) (w .symbols) }
-
   module _ (before after : List ℕ) where
     -- the answer, and the lent sign after the call
     abbrev Told : Type 0
-    Told = (h .number ∷ h .place ∷ [] ≡ readingNumbers (readingOf (signOf set text))) × (after ≡ signLeft before (readingOf (signOf set text)))
+    Told = (h .number ∷ h .place ∷ [] ≡ readingNumbers (readingIn set text)) × (after ≡ signLeft before (readingIn set text))
 
-    pub told-done : h .number ≡ 0 → after ≡ signNumbers (signIn h prefix codes xs ys) → Told
+    pub told-done : h .number ≡ 0 → after ≡ signNumbers (signIn set h prefix codes xs ys) → Told
     told-done z e = rw (← reading-done set text h prefix codes xs ys v z) (numbers (known set text h prefix codes xs ys v), e)
       where
         numbers : Known set text h prefix codes xs ys → h .number ∷ h .place ∷ [] ≡ 0 ∷ 0 ∷ []

@@ -41,7 +41,7 @@ abbrev pub leadNumbers : Sign → List ℕ
 leadNumbers s = s .marker ∷ s .«max_x» ∷ s .«max_y» ∷ s .«prefix_count» ∷ s .«symbol_count» ∷ []
 
 unfoldable pub signNumbers : Sign → List ℕ
-signNumbers s = leadNumbers s ++ (s .prefix ++ (s .codes ++ (s .xs ++ s .ys)))
+signNumbers s = leadNumbers s ++ (s .prefix ++ (s .codes ++ (s .xs ++ (s .ys ++ (s .«prefix_offsets» ++ s .«symbol_offsets»)))))
 
 -- the lent sign after the call: as it was where the text is refused
 abbrev pub signLeft : List ℕ → Reading → List ℕ

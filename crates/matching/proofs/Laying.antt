@@ -13,8 +13,7 @@ use Rattle.grammar.specs.Sign.{Spatial, Meaning}
 use Rattle.token.specs.Padded.{padded}
 use Rattle.reader.proofs.Filling.{padded-length}
 use Rattle.writer.specs.Arrays.{upto}
-use Rattle.writer.proofs.Upto.{map-upto}
-use Rattle.sign.proofs.Transcribing.{upto-is}
+use Rattle.writer.proofs.Upto.{upto-is, map-upto}
 use Rattle.querygrammar.specs.Query.{Item, rangeItem, Prefix, free, present, begins, Sought, Query, itemsOf, kindOf, ValidItem, ValidSought, ValidQuery}
 use Rattle.queryitem.specs.Numbers.{xOf, yOf, bareItem}
 use Rattle.queryitem.specs.Words.{wordCount, itemWords, rowWords, rowsWords, wordsOf}

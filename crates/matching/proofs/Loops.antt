@@ -12,8 +12,7 @@ use borrow.Author.Tests.{eq-eqb, ne-eqb}
 use Rattle.token.specs.Padded.{padded, zeros}
 use Rattle.writer.specs.Arrays.{upto}
 use Rattle.reader.proofs.Filling.{padded-none, put-more}
-use Rattle.writer.proofs.Upto.{upto-length, map-upto}
-use Rattle.sign.proofs.Transcribing.{upto-at}
+use Rattle.writer.proofs.Upto.{upto-length, upto-at, map-upto}
 use Rattle.matching.specs.Meets.{beginsBy, firstFrom, unmet, met, missing, judged}
 
 -- a test answers b at every place before i

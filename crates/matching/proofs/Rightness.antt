@@ -6,11 +6,11 @@ use mathlib.Core.Bool.{Bool, true, false}
 use mathlib.Core.Logic.{_⊎_, inl, inr, ⊎-elim}
 use native.Mathlib.Omega.{arith}
 use borrow.Author.Tests.{eq-eqb, ne-eqb}
-use Rattle.format.specs.Format.{choose}
+use Rattle.format.specs.Format.{choose, Pairwise}
 use Rattle.grammar.specs.Sign.{Meaning}
 use Rattle.querygrammar.specs.Query.{Sought, Query}
 use Rattle.matching.specs.Meets.{Serves, Some, Nth, Condition, Meets, serves, firstFrom, prefixHolds, Judgement, unmet, met, missing, judged, witnessesOf, verdictOf, isMet, answered}
-use Rattle.matching.specs.MeetsLaws.{First, Pairwise, Right, MeetsLaws}
+use Rattle.matching.specs.MeetsLaws.{First, Right, MeetsLaws}
 use Rattle.matching.proofs.Deciding.{clash, Decides, prefix-decides, serves-decides}
 
 -- THE FIRST OF WHICH A STATEMENT HOLDS

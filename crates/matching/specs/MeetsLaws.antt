@@ -4,6 +4,7 @@ use mathlib.Core.Path.{_≡_}
 use mathlib.Core.List.{List, [], _∷_}
 use mathlib.Core.Bool.{true}
 use mathlib.Core.Logic.{_↔_}
+use Rattle.format.specs.Format.{Pairwise}
 use Rattle.grammar.specs.Sign.{Meaning}
 use Rattle.querygrammar.specs.Query.{Query}
 use Rattle.matching.specs.Meets.{Serves, Condition, Meets, Judgement, unmet, met, verdictOf, isMet}
@@ -14,13 +15,6 @@ First P zero l = ⊥
 First P (suc n) [] = ⊥
 First P (suc zero) (a ∷ l) = P a
 First P (suc (suc n)) (a ∷ l) = (P a → ⊥) × First P (suc n) l
-
--- two lists are equally long, and R holds of their elements one by one
-abbrev pub Pairwise : {A B : Type 0} → (A → B → Type 0) → List A → List B → Type 0
-Pairwise R [] [] = Unit
-Pairwise R [] (b ∷ m) = ⊥
-Pairwise R (a ∷ l) [] = ⊥
-Pairwise R (a ∷ l) (b ∷ m) = R a b × Pairwise R l m
 
 -- what a verdict has to say of a query and a sign
 pub record Right (q : Query) (m : Meaning) (v : Judgement) : Type 0 where

@@ -7,4 +7,5 @@ pub mod Unmoved
 pub mod Along
 pub mod Recentred
 pub mod Repeated
+pub mod Kept
 pub mod Laws

@@ -8,25 +8,23 @@ use lib.Dec.{lit<}
 use lib.IntN.{pos, subℕ}
 use lib.ListN.{length, getD, length-map}
 use Rattle.format.specs.Format.{choose}
-use Rattle.format.specs.Numeral.{Range}
 use Rattle.charset.specs.declared.Charset.{Charset}
-use Rattle.charset.specs.Tokens.{lastCode, lastWriting}
-use Rattle.grammar.specs.Sign.{Spatial, Meaning, Valid, ValidSymbol, signText}
+use Rattle.grammar.specs.Sign.{Spatial, Meaning, Valid, signText}
 use Rattle.token.specs.Refusal.{numberOutside}
 use Rattle.token.specs.Result.{done, onDone, andThen}
 use Rattle.token.proofs.Checks.{check-done, onDone-done, andThen-done}
+use Rattle.token.proofs.Results.{same-done}
 use Rattle.reader.specs.Signs.{signOf}
-use Rattle.sign.proofs.Transcribing.{Within, sign-within}
+use Rattle.sign.proofs.Packed.{Within, sign-within}
 use Rattle.sign.proofs.Transcriptions.{written-reads}
 use Rattle.bounds.specs.declared.groups.Groups.{Groups}
 use Rattle.bounds.specs.Boxes.{groupsOf}
 use Rattle.bounds.specs.Sizes.{firstUnsized, measured}
 use Rattle.bounds.specs.Centre.{all, boxOf, horizontal, vertical, serving, chosenBox, doubledOf}
-use Rattle.bounds.proofs.Measuring.{all-weaker, Measures, measures, measured-fine}
+use Rattle.bounds.proofs.Measuring.{Measures, measures, measured-fine}
 use Rattle.moving.specs.Moves.{stays, allOf, xsOf, ysOf, movedSymbol, movedMeaning, movedSign, toMiddle, restated, centredBy, centredSign, centredText}
-use Rattle.moving.specs.Inner.{Coded}
 use Rattle.moving.proofs.Numbers.{both, stays-along}
-use Rattle.moving.proofs.Signs.{all-first, moved-valid}
+use Rattle.moving.proofs.Signs.{all-first, coded-of, moved-valid}
 use Rattle.moving.proofs.Unmoved.{unmoved}
 use Rattle.moving.proofs.Along.{BoxAlong, serving-along}
 
@@ -78,15 +76,8 @@ module _ (sizes : List ℕ) (m : Meaning) (g : Groups) where
     remeasured =
         measured-fine sizes (centred .symbols) (is .long) (rw as-many (is .some)) (ap (firstUnsized sizes 1) (map-map (λ s. s .code) move (m .symbols)) ∙ is .sized)
 
-    coded : Coded (restated g m)
-    coded = record {
-      prefix = w .valid .prefix;
-      marker = w .valid .marker;
-      codes = all-weaker ValidSymbol (λ s. Range 1 (lastCode lastWriting) (s .code)) (λ s q. q .0) (m .symbols) (w .valid .symbols);
-    }
-
     valid : Valid centred
-    valid = moved-valid (subℕ 500 dx) (subℕ 500 dy) (restated g m) coded h k
+    valid = moved-valid (subℕ 500 dx) (subℕ 500 dy) (restated g m) (coded-of m (restated g m .x) (restated g m .y) (w .valid)) h k
 
     within : Within centred
     within = record { prefix = w .prefix; symbols = omega (arith, as-many, w .symbols); valid = valid }
@@ -135,9 +126,6 @@ module _ (sizes : List ℕ) (m : Meaning) (g : Groups) where
 
     made : Made sizes centred
     made = record { within = within; again = recentred }
-
-same-done : {A : Type 0} {a b : A} → done a ≡ done b → a ≡ b
-same-done e = cc
 
 centred-made : (sizes : List ℕ) (m : Meaning) → Within m → (new : Meaning) → centredSign sizes m ≡ done new → Made sizes new
 unfolding centredSign movedSign

@@ -22,12 +22,12 @@ use Rattle.moving.specs.Moves.{stays, allOf, xsOf, ysOf, movedMeaning, m
 use Rattle.moving.specs.MovingLaws.{centredIn}
 use Rattle.moving.proofs.Recentred.{again}
 
-moved-counted : (dx dy : ℤ) (m : Meaning) → Counted (movedSign dx dy m)
+pub moved-counted : (dx dy : ℤ) (m : Meaning) → Counted (movedSign dx dy m)
 unfolding movedSign
 moved-counted dx dy m =
     check-counted (allOf (stays dx) (xsOf m) && allOf (stays dy) (ysOf m)) numberOutside 0 _ (lit< tt) (done-counted (movedMeaning dx dy m))
 
-counted : (set : Charset) (sizes text : List ℕ) → Counted (centredText set text sizes)
+pub counted : (set : Charset) (sizes text : List ℕ) → Counted (centredText set text sizes)
 unfolding centredText centredSign
 counted set sizes text =
     onDone-counted (signText set) (andThen (signOf set text) (centredSign sizes))

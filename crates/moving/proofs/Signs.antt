@@ -7,6 +7,7 @@ use native.Mathlib.Omega.{arith}
 use lib.IntN.{ℤ}
 use lib.ListN.{length}
 use Rattle.format.specs.Format.{All}
+use Rattle.format.proofs.Lists.{all-weaker}
 use Rattle.format.specs.Numeral.{Range}
 use Rattle.charset.specs.Tokens.{lastCode, lastWriting}
 use Rattle.grammar.specs.Sign.{Spatial, Meaning, Valid, ValidSymbol}
@@ -40,6 +41,14 @@ module _ (dx dy : ℤ) (m : Meaning) where
   pub sign-leaves-y : allOf (stays dx) (xsOf m) ≡ true → allOf (stays dy) (ysOf m) ≡ false → movedSign dx dy m ≡ refusal numberOutside 0
   unfolding movedSign
   sign-leaves-y h k = rw (h, k)
+
+-- a valid sign is so but for its maximum too, whatever that is
+pub coded-of : (m : Meaning) (x y : ℕ) → Valid m → Coded (record { prefix = m .prefix; marker = m .marker; x = x; y = y; symbols = m .symbols })
+coded-of m x y ok = record {
+  prefix = ok .prefix;
+  marker = ok .marker;
+  codes = all-weaker ValidSymbol (λ s. Range 1 (lastCode lastWriting) (s .code)) (λ s k. k .0) (m .symbols) (ok .symbols);
+}
 
 -- symbols whose numbers stay
 module _ (dx dy : ℤ) where

@@ -10,7 +10,7 @@ use Rattle.charset.specs.declared.Charset.{Charset}
 use Rattle.grammar.specs.Sign.{Spatial, Meaning, Number, Valid, ValidSymbol, signText}
 use Rattle.token.specs.Result.{done, onDone, andThen}
 use Rattle.reader.specs.Signs.{signOf}
-use Rattle.sign.proofs.Transcribing.{sign-within, sign-reads}
+use Rattle.sign.proofs.Packed.{sign-within, sign-reads}
 use Rattle.moving.specs.Moves.{movedNumber, isNumber, stays, allOf, movedSymbol, movedSign, shiftedText}
 use Rattle.moving.proofs.Signs.{sign-moves}
 

@@ -13,6 +13,7 @@ use native.Mathlib.Omega.{arith}
 use borrow.Author.Tests.{ltb-true}
 use Rattle.format.specs.Format.{Format, All, choose, optional, writeAll}
 use Rattle.format.specs.Places.{Outcome, fine, refused, endsShort}
+use Rattle.format.proofs.Lists.{all-append}
 use Rattle.token.specs.Refusal.{prefixLong, signboxLong, rangeReversed}
 use Rattle.token.specs.Result.{Result, refusal, done, check, andThen, ofOutcome}
 use Rattle.token.proofs.Checks.{refusal-done, Counted}
@@ -28,10 +29,6 @@ use Rattle.query.proofs.Accepted.{query-accepted}
 -- what stands after the first part of what stands at an offset
 onward : (text x y : List ℕ) (at : ℕ) → drop at text ≡ x ++ y → drop (at + length x) text ≡ y
 onward text x y at e = sym (drop-drop (length x) at text) ∙ ap (drop (length x)) e ∙ drop-at x y (length x) refl
-
-all-append : {A : Type 0} (P : A → Type 0) (l m : List A) → All P l → All P m → All P (l ++ m)
-all-append P [] m p q = q
-all-append P (a ∷ l) m p q = (p .0, all-append P l m (p .1) q)
 
 -- ITEMS ONE AFTER THE OTHER
 

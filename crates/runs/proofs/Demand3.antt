@@ -24,9 +24,10 @@ use Rattle.entries.specs.Judging.{meets}
 use Rattle.books.specs.Book.{bookOf, otherText}
 use Rattle.books.specs.Forms.{formBy}
 use Rattle.books.proofs.Forms.{form-laws}
+use Rattle.books.proofs.Rewriting.{lines-alike}
 use Rattle.dictionary.specs.Opening.{opening, opened}
 use Rattle.dictionary.specs.Narrowing.{testOf, narrowed}
-use Rattle.dictionary.proofs.Openings.{openingFill, opening-fill}
+use Rattle.dictionary.proofs.Openings.{openingFill, opening-fill, opened-from}
 use Rattle.runs.specs.Demand3.{isAccepted, meetsEach, meeting, ownRefusal, Demand3}
 
 abbrev meetsQuery : Query → Result Meaning → Bool
@@ -91,5 +92,6 @@ demand3 =
           claim .telling (bookOf (set, dict)) list o queries (all-fit queries)
           ∙ (λ i. map {B = List ℕ × (ℕ × ℕ)} (λ query. (query, refusal-own set dict query i)) queries);
       reordering = λ set dict list o queries reordered p. claim .reordering (bookOf (set, dict)) list o queries reordered (all-fit queries) p;
+      rewritten-lines = λ set dict list o e l h. lines-alike (set, dict) (opened-from set dict list o .0) e l h;
       rewriting = λ set dict list o queries. let r = claim .rewriting (set, dict) list o queries in (r .0, r .2);
     }

@@ -1,7 +1,7 @@
 -- Demand 3 (document 01, "The dictionary and its list"): one claim about every run of narrowing calls on a dictionary that opens.
 -- It is about the definitions that the contracts cite: `open` cites `opening`, `opened` and `output`, `narrow` cites `narrowed`,
 -- `query::read` cites `queryOf` and `readingOf`, and `verdict::verdict` cites `verdictIn`.
-use Prim.Native.Nat.{ℕ, _+_}
+use Prim.Native.Nat.{ℕ, _+_, _≤_}
 use mathlib.Core.Path.{_≡_}
 use mathlib.Core.List.{List, [], _∷_, map, Perm}
 use mathlib.Core.Bool.{Bool, true, _&&_}
@@ -11,6 +11,7 @@ use Rattle.format.specs.Format.{keep}
 use Rattle.charset.specs.declared.Charset.{Charset}
 use Rattle.grammar.specs.Sign.{Meaning}
 use Rattle.token.specs.Result.{output}
+use Rattle.sign.specs.OffsetLaws.{ReadAlike}
 use Rattle.sign.specs.Transcription.{otherSet}
 use Rattle.query.specs.Reading.{queryOf, readingOf}
 use Rattle.querygrammar.specs.Query.{Query}
@@ -73,6 +74,9 @@ pub record Demand3 : Type 0 where
       → (runOn set dict list queries .list ≡ runOn set dict list reordered .list)
       × (total (runOn set dict list queries .answers) ≡ total (runOn set dict list reordered .answers))
       × Perm (told queries (runOn set dict list queries .answers)) (told reordered (runOn set dict list reordered .answers))
+  -- each line of the rewritten dictionary reads as a sign equal in all but offsets to that of the line it was
+  pub rewritten-lines : (set : Charset) (dict list : List ℕ) → Opens set dict list → (e : ℕ) → 1 ≤ e → e ≤ length (lines dict)
+      → ReadAlike (otherSet set) (lineOf (rewritten set dict) e) set (lineOf dict e)
   -- the rewritten dictionary opens into equal list memory, and the same queries in the same order give the same answer at every
   -- call and the same list memory
   pub rewriting : (set : Charset) (dict list : List ℕ) → Opens set dict list → (queries : List (List ℕ))

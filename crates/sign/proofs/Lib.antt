@@ -1,3 +1,6 @@
+pub mod Packed
 pub mod Readings
+pub mod Stepping
+pub mod OffsetLaws
 pub mod Transcribing
 pub mod Transcriptions

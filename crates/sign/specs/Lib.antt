@@ -1,2 +1,4 @@
 pub mod Reading
+pub mod OffsetLaws
 pub mod Transcription
+pub mod Inner

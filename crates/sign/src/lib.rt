@@ -1,14 +1,16 @@
 // Signs: reading in either character set, and transcription into the other.
 ghost use mathlib.Core.Path.{_≡_};
-ghost use Rattle.token.specs.Result.{refusal, written, output};
-ghost use Rattle.reader.specs.Signs.{signOf};
-ghost use Rattle.sign.specs.Reading.{readingOf};
+ghost use Rattle.token.specs.Result.{written, output};
+ghost use Rattle.sign.specs.Reading.{noSign, readingIn};
 ghost use Rattle.sign.specs.Transcription.{otherSet, transcription};
 use charset::Charset;
 use token::Written;
 use token::refusal::DONE;
 
-// A sign as read. The marker is 1 to 4 for B, L, M, R, and the maximum is as stated. Places after the counts hold 0.
+pub mod offsets;
+
+// A sign as read. The marker is 1 to 4 for B, L, M, R, and the maximum is as stated. The offsets are those of the bytes where
+// the symbols' keys begin in the text, in SWU their characters. Places after the counts hold 0.
 pub struct Sign {
     pub marker: u16,
     pub max_x: u16,
@@ -19,6 +21,8 @@ pub struct Sign {
     pub codes: [u16; 64],
     pub xs: [u16; 64],
     pub ys: [u16; 64],
+    pub prefix_offsets: [u16; 32],
+    pub symbol_offsets: [u16; 64],
 }
 
 pub struct Reading {
@@ -28,7 +32,7 @@ pub struct Reading {
 }
 
 fn no_sign(number: u8, place: usize) -> Reading
-    ensures { λ r. ⌜ r ≡ readingOf (refusal number place) ⌝ }
+    ensures { λ r. ⌜ r ≡ record { number = number; place = place; sign = noSign } ⌝ }
 {
     let zeros = [0u16; 64];
     let none = Sign {
@@ -41,6 +45,8 @@ fn no_sign(number: u8, place: usize) -> Reading
         codes: zeros,
         xs: zeros,
         ys: zeros,
+        prefix_offsets: [0u16; 32],
+        symbol_offsets: zeros,
     };
     Reading {
         number: number,
@@ -51,7 +57,7 @@ fn no_sign(number: u8, place: usize) -> Reading
 
 // Reads a sign: refused as 1 or 2, then 3, then 4.
 pub fn read(set: Charset, text: &[u8]) -> Reading
-    ensures { λ r. ⌜ r ≡ readingOf (signOf set (now (text .entry))) ⌝ }
+    ensures { λ r. ⌜ r ≡ readingIn set (now (text .entry)) ⌝ }
 {
     let mut prefix = [0u16; 32];
     let mut codes = [0u16; 64];
@@ -62,6 +68,10 @@ pub fn read(set: Charset, text: &[u8]) -> Reading
     if number != DONE {
         return no_sign(number, h.place);
     }
+    let mut prefix_offsets = [0u16; 32];
+    let mut symbol_offsets = [0u16; 64];
+    offsets::put_prefix_offsets(set, h.prefix_count, &mut prefix_offsets, 0);
+    offsets::put_symbol_offsets(set, h.prefix_count, h.symbol_count, &mut symbol_offsets, 0);
     let sign = Sign {
         marker: h.marker,
         max_x: h.max_x,
@@ -72,6 +82,8 @@ pub fn read(set: Charset, text: &[u8]) -> Reading
         codes: codes,
         xs: xs,
         ys: ys,
+        prefix_offsets: prefix_offsets,
+        symbol_offsets: symbol_offsets,
     };
     Reading {
         number: DONE,

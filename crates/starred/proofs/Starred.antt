@@ -1,22 +1,22 @@
 -- The starred examples, by computation. The reader, the queries and the verdicts run on the texts as they stand.
-use Prim.Native.Nat.{ℕ}
-use mathlib.Core.Path.{_≡_, refl}
-use mathlib.Core.List.{List}
+use mathlib.Core.Path.{refl}
 use borrow.Author.Tests.{eq-eqb}
 use lib.ListN.{length}
 use Rattle.format.specs.Format.{keep}
-use Rattle.charset.specs.declared.Charset.the-variants.{Fsw}
-use Rattle.charset.specs.Bytes.{ascii, digitOf, markerOf}
-use Rattle.token.specs.Result.{done}
+use Rattle.charset.specs.Bytes.{digitOf, markerOf, scalarOf}
+use Rattle.grammar.specs.Offsets.{steps}
+use Rattle.token.specs.Padded.{padded}
 use Rattle.symbol.specs.Codes.{codeRead, codeText}
 use Rattle.reader.specs.Signs.{signOf}
+use Rattle.sign.specs.Reading.{readingOf}
+use Rattle.sign.specs.Transcription.{transcription}
 use Rattle.query.specs.Reading.{queryOf}
 use Rattle.matching.specs.Meets.{satisfies, prefixHolds, serves, judged, witnessesOf, verdictOf}
 use Rattle.verdict.specs.Verdict.{verdictOn, verdictIn}
 use Rattle.bounds.specs.Boxes.{grownAll, groupsOf}
 use Rattle.bounds.specs.Sizes.{firstUnsized, measured}
 use Rattle.moving.specs.Moves.{allOf, movedSign, centredSign, centredText}
-use Rattle.starred.specs.Starred.{SizeOf, StarredRows, OtherRows, NumberRows, CentringRows}
+use Rattle.starred.specs.Starred.{StarredRows, OtherRows, NumberRows, CentringRows, OffsetRows}
 
 pub starred : StarredRows
 unfolding codeRead codeText digitOf markerOf signOf queryOf verdictIn verdictOn verdictOf prefixHolds satisfies judged witnessesOf serves centredText centredSign measured firstUnsized groupsOf keep grownAll movedSign allOf
@@ -75,4 +75,17 @@ centrings = record {
   both = λ sizes n a b c. rw (eq-eqb (length sizes) 125184 n, a .width, a .height, b .width, b .height, c .width, c .height);
   trunk = λ sizes n a b. rw (eq-eqb (length sizes) 125184 n, a .width, a .height, b .width, b .height);
   head = λ sizes n a b. rw (eq-eqb (length sizes) 125184 n, a .width, a .height, b .width, b .height);
+}
+
+pub offsets : OffsetRows
+unfolding digitOf markerOf scalarOf signOf readingOf transcription padded steps
+offsets = record {
+  transcribed = refl;
+  prefix = refl;
+  symbols = refl;
+  prefixInSwu = refl;
+  symbolsInSwu = refl;
+  noPrefix = refl;
+  noPrefixInSwu = refl;
+  refused = (refl, refl);
 }

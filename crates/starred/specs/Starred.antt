@@ -8,8 +8,11 @@ use Rattle.charset.specs.declared.Charset.the-variants.{Fsw, Swu}
 use Rattle.charset.specs.Bytes.{ascii, utf8}
 use Rattle.grammar.specs.Sign.{signText}
 use Rattle.token.specs.Result.{refusal, done}
+use Rattle.token.specs.Padded.{zeros}
 use Rattle.symbol.specs.Codes.{codeRead, codeText}
 use Rattle.reader.specs.Signs.{signOf}
+use Rattle.sign.specs.Reading.{readingIn}
+use Rattle.sign.specs.Transcription.{transcription}
 use Rattle.query.specs.Reading.{queryOf}
 use Rattle.matching.specs.Meets.{unmet, met, answered}
 use Rattle.verdict.specs.Verdict.{verdictIn}
@@ -79,3 +82,22 @@ pub record CentringRows : Type 0 where
       → centredText Fsw (ascii "M535x540S36d00470x520S10000520x470") sizes ≡ done (ascii "M533x510S36d00468x490S10000518x440")
   pub head : (sizes : List ℕ) → length sizes ≡ 125184 → SizeOf sizes 49057 36 36 → SizeOf sizes 1 15 30
       → centredText Fsw (ascii "M550x560S2ff00490x480S10000535x530") sizes ≡ done (ascii "M542x562S2ff00482x482S10000527x532")
+
+-- K in SWU: A, its two symbols; M, its maximum; each symbol with its coordinate
+abbrev pub KInSwu : List ℕ
+KInSwu =
+    utf8 0x1d800 ++ (utf8 0x40001 ++ (utf8 0x461e1
+    ++ (utf8 0x1d803 ++ (utf8 0x1d910 ++ (utf8 0x1d915
+    ++ (utf8 0x40001 ++ (utf8 0x1d8fc ++ (utf8 0x1d8f7
+    ++ (utf8 0x461e1 ++ (utf8 0x1d906 ++ utf8 0x1d901))))))))))
+
+-- where symbols stand, zeros in unused places, and zeros where the text is refused (document 02, Q-8)
+pub record OffsetRows : Type 0 where
+  pub transcribed : transcription Fsw K ≡ done KInSwu
+  pub prefix : readingIn Fsw K .sign .«prefix_offsets» ≡ 1 ∷ 7 ∷ zeros 30
+  pub symbols : readingIn Fsw K .sign .«symbol_offsets» ≡ 21 ∷ 34 ∷ zeros 62
+  pub prefixInSwu : readingIn Swu KInSwu .sign .«prefix_offsets» ≡ 4 ∷ 8 ∷ zeros 30
+  pub symbolsInSwu : readingIn Swu KInSwu .sign .«symbol_offsets» ≡ 24 ∷ 36 ∷ zeros 62
+  pub noPrefix : readingIn Fsw (ascii "M500x500S10000500x500") .sign .«symbol_offsets» ≡ 8 ∷ zeros 63
+  pub noPrefixInSwu : readingIn Swu (utf8 0x1d803 ++ (utf8 0x1d906 ++ (utf8 0x1d906 ++ (utf8 0x40001 ++ (utf8 0x1d906 ++ utf8 0x1d906))))) .sign .«symbol_offsets» ≡ 12 ∷ zeros 63
+  pub refused : (readingIn Fsw (ascii "M749x750") .sign .«prefix_offsets» ≡ zeros 32) × (readingIn Fsw (ascii "M749x750") .sign .«symbol_offsets» ≡ zeros 64)

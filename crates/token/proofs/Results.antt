@@ -32,7 +32,7 @@ pub onDone-refusal : {A B : Type 0} (to : A → B) (r : Result A) (n p : ℕ) �
 onDone-refusal to (refusal k q) n p e = cc
 onDone-refusal to (done a) n p e = refusal-done n p (sym e)
 
-same-done : {A : Type 0} {a b : A} → done a ≡ done b → a ≡ b
+pub same-done : {A : Type 0} {a b : A} → done a ≡ done b → a ≡ b
 same-done e = cc
 
 -- a value that is there was found

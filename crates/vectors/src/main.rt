@@ -61,6 +61,25 @@ fn sign_in(set: Charset, text: &[u8]) {
     put(r.place as u64);
 }
 
+// The first, the second and the ninth of some numbers.
+fn put_some(numbers: &[u16]) {
+    if 8 < numbers.len() {
+        put_three(numbers[0] as u64, numbers[1] as u64, numbers[8] as u64);
+    }
+}
+
+// Where symbols stand: the offsets of the first, the second and the ninth of the prefix, then of the signbox.
+fn offsets_in(set: Charset, text: &[u8]) {
+    let r = sign::read(set, text);
+    put(r.number as u64);
+    put(r.place as u64);
+    let found = r.sign;
+    let prefix = found.prefix_offsets;
+    let symbols = found.symbol_offsets;
+    put_some(&prefix);
+    put_some(&symbols);
+}
+
 fn query_in(text: &[u8]) {
     let r = query::read(text);
     put(r.number as u64);
@@ -113,14 +132,16 @@ fn centring(text: &[u8]) {
     );
 }
 
-// k: a key's code; c: its character; f and s: an FSW and an SWU sign; t and b: transcribed from FSW, and back from SWU; q: a
-// query; v: a verdict; m: a sign moved to the middle.
+// k: a key's code; c: its character; f and s: an FSW and an SWU sign; o and p: where the symbols of an FSW and of an SWU sign
+// stand; t and b: transcribed from FSW, and back from SWU; q: a query; v: a verdict; m: a sign moved to the middle.
 fn answer(kind: u8, text: &[u8]) {
     match kind {
         b'k' => key(text),
         b'c' => character(text),
         b'f' => sign_in(Charset::Fsw, text),
         b's' => sign_in(Charset::Swu, text),
+        b'o' => offsets_in(Charset::Fsw, text),
+        b'p' => offsets_in(Charset::Swu, text),
         b't' => transcription(Charset::Fsw, text),
         b'b' => transcription(Charset::Swu, text),
         b'q' => query_in(text),

@@ -4,18 +4,20 @@ use mathlib.Core.Path.{_≡_, refl, sym, ap, _∙_}
 use mathlib.Core.List.{List}
 use mathlib.Core.Bool.{true, false}
 use native.Mathlib.Omega.{arith}
+use Rattle.format.specs.Format.{Pairwise}
 use Rattle.charset.specs.declared.Charset.{Charset}
 use Rattle.grammar.specs.Sign.{Meaning}
 use Rattle.token.specs.Result.{Result, refusal, done}
 use Rattle.token.specs.Padded.{padded}
 use Rattle.reader.specs.Signs.{signOf}
 use Rattle.reader.proofs.Limits.{sign-counted}
-use Rattle.sign.proofs.Transcriptions.{transcription-laws}
+use Rattle.sign.specs.OffsetLaws.{ReadAlike}
+use Rattle.sign.proofs.OffsetLaws.{one-meaning}
 use Rattle.querygrammar.specs.Query.{Query}
 use Rattle.query.specs.Reading.{queryOf}
 use Rattle.query.proofs.Answers.{query-counted}
 use Rattle.matching.specs.Meets.{Serves, Meets, Judgement, unmet, met, verdictOf, isMet, answered}
-use Rattle.matching.specs.MeetsLaws.{First, Pairwise}
+use Rattle.matching.specs.MeetsLaws.{First}
 use Rattle.matching.proofs.Deciding.{clash}
 use Rattle.matching.proofs.Rightness.{right-unmet, meets-laws, answered-met}
 use Rattle.verdict.specs.Verdict.{verdictOn, verdictBy, verdictIn, Reads, FirstUnmet, VerdictLaws}
@@ -80,11 +82,15 @@ module _ (set : Charset) (query text : List ℕ) where
       let w = was-met (verdictOf q m) (l .exactly .1 s) in
       (w .0, (ap (λ v. v .witnesses) (on-reads q m r ∙ ap answered (w .1)), l .witnesses (w .0) (w .1)))
 
-pub verdict-laws : VerdictLaws
+alike : (set : Charset) (text : List ℕ) (set₂ : Charset) (text₂ : List ℕ) → ReadAlike set text set₂ text₂ → (query : List ℕ) → verdictIn set query text ≡ verdictIn set₂ query text₂
 unfolding verdictIn
+alike set text set₂ text₂ a query =
+    let k = one-meaning set text set₂ text₂ a in ap (verdictBy (queryOf query)) (k .1 .0 ∙ sym (k .1 .1))
+
+pub verdict-laws : VerdictLaws
 verdict-laws = record {
   exactly = λ set query text. (exactly-to set query text, exactly-from set query text);
   first-unmet = λ set query text n. (unmet-to set query text n, unmet-from set query text n);
   witnesses = witnessed;
-  alike = λ set query text other e. ap (verdictBy (queryOf query)) (transcription-laws .equal set text other e);
+  alike = alike;
 }

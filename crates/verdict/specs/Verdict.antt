@@ -4,17 +4,18 @@ use mathlib.Core.Path.{_≡_}
 use mathlib.Core.List.{List}
 use mathlib.Core.Bool.{true, false}
 use mathlib.Core.Logic.{_↔_}
+use Rattle.format.specs.Format.{Pairwise}
 use Rattle.charset.specs.declared.Charset.{Charset}
 use Rattle.grammar.specs.Sign.{Meaning}
 use Rattle.token.specs.Result.{Result, refusal, done}
 use Rattle.token.specs.Padded.{padded, zeros}
 use Rattle.reader.specs.Signs.{signOf}
-use Rattle.sign.specs.Transcription.{otherSet, transcription}
+use Rattle.sign.specs.OffsetLaws.{ReadAlike}
 use Rattle.querygrammar.specs.Query.{Query}
 use Rattle.query.specs.Reading.{queryOf}
 use Rattle.matching.specs.declared.Verdict.{Verdict}
 use Rattle.matching.specs.Meets.{Serves, Condition, Meets, verdictOf, answered}
-use Rattle.matching.specs.MeetsLaws.{First, Pairwise}
+use Rattle.matching.specs.MeetsLaws.{First}
 
 -- not met, and zeros but for number and place
 abbrev pub refusedAs : ℕ → ℕ → Verdict
@@ -54,5 +55,5 @@ pub record VerdictLaws : Type 0 where
   -- where it is met each signbox item has its witness, the first symbol that serves it
   pub witnesses : (set : Charset) (query text : List ℕ) (q : Query) (m : Meaning) → Reads set query text q m → Meets q m
       → (ws : List ℕ) × ((verdictIn set query text .witnesses ≡ padded 32 ws) × Pairwise (λ sought w. First (Serves (q .variance) sought) w (m .symbols)) (q .items) ws)
-  -- the verdict depends on the sign alone, and not on its character set
-  pub alike : (set : Charset) (query text other : List ℕ) → transcription set text ≡ done other → verdictIn (otherSet set) query other ≡ verdictIn set query text
+  -- texts that read as signs equal in all but offsets have the same verdict
+  pub alike : (set : Charset) (text : List ℕ) (set₂ : Charset) (text₂ : List ℕ) → ReadAlike set text set₂ text₂ → (query : List ℕ) → verdictIn set query text ≡ verdictIn set₂ query text₂

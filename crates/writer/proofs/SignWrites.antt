@@ -8,6 +8,7 @@ use Rattle.format.specs.Format.{many}
 use Rattle.charset.specs.declared.Charset.{Charset}
 use Rattle.charset.specs.declared.Charset.the-variants.{Fsw, Swu}
 use Rattle.charset.specs.Tokens.{tokens, lastWriting, lastLocation}
+use Rattle.charset.proofs.Texts.{marker-text, null-or-symbol-text, symbol-text}
 use Rattle.grammar.specs.Sign.{Spatial, Meaning, Valid, point, prefixSymbol, spatial, ofSpatial, signText}
 use Rattle.grammar.specs.Size.{leadSize, spatialSize, prefixSize, signSize}
 use Rattle.grammar.proofs.SignSize.{sign-size}
@@ -16,21 +17,6 @@ use Rattle.token.specs.Wrote.{Wrote}
 use Rattle.writer.proofs.Writes.{wrote-none, wrote-more, wrote-as}
 use Rattle.writer.specs.Arrays.{upto, prefixText, symbolsText}
 use Rattle.writer.proofs.Upto.{upto-length, upto-size, map-upto}
-
--- A token's text does not depend on the limits that its format is given.
-pub marker-text : (set : Charset) (lo hi m : ℕ) → tokens set .marker 0 4 .write m ≡ tokens set .marker lo hi .write m
-marker-text Fsw lo hi m = refl
-marker-text Swu lo hi m = refl
-
-pub null-or-symbol-text : (set : Charset) (top code : ℕ) → anySymbol set .write code ≡ tokens set .symbolOrNull top .write code
-null-or-symbol-text Fsw top zero = refl
-null-or-symbol-text Fsw top (suc n) = refl
-null-or-symbol-text Swu top code = refl
-
-pub symbol-text : (set : Charset) (top code : ℕ) → 1 ≤ code → anySymbol set .write code ≡ tokens set .symbol top .write code
-symbol-text Fsw top zero h = absurd (omega arith)
-symbol-text Fsw top (suc n) h = refl
-symbol-text Swu top code h = refl
 
 -- The bytes of each part.
 pub number-size : (set : Charset) (n : ℕ) → length (tokens set .number .write n) ≡ tokens set .numberSize

@@ -6,7 +6,8 @@ use mathlib.Core.Logic.{⊎-elim}
 use native.Mathlib.Nat.{suc-mul, mul-le-mul-right, eq-or-lt-of-le}
 use native.Mathlib.Numerals.{add-one}
 use native.Mathlib.Omega.{arith}
-use lib.ListN.{length, length-append}
+use lib.ListN.{length, length-append, getD, List·getD-append}
+use lib.Seq.{ext-getD, getD-at}
 use Rattle.format.specs.Format.{Format, All, many}
 use Rattle.token.specs.Wrote.{Wrote}
 use Rattle.writer.proofs.Writes.{wrote-none, wrote-more, wrote-as}
@@ -24,6 +25,24 @@ pub map-upto : {A B : Type 0} (h : A → B) (g : ℕ → A) (n : ℕ) → map h 
 unfolding upto
 map-upto h g zero = refl
 map-upto h g (suc n) = map-append h (upto g n) (g n ∷ []) ∙ ap (λ l. l ++ (h (g n) ∷ [])) (map-upto h g n)
+
+pub upto-at : {A : Type 0} (g : ℕ → A) (n i : ℕ) (d : A) → i < n → getD (upto g n) i d ≡ g i
+unfolding upto
+upto-at g zero i d h = absurd (omega arith)
+upto-at g (suc n) i d h =
+    ⊎-elim
+    (λ e. ap (λ j. getD (upto g n ++ (g n ∷ [])) j d) e ∙ getD-at (upto g n) (g n) [] d n (upto-length g n) ∙ ap g (sym e))
+    (λ k. List·getD-append (upto g n) (g n ∷ []) d i (rw (upto-length g n) k) ∙ upto-at g n i d k)
+    (eq-or-lt-of-le (last n i h))
+  where
+    last : (n i : ℕ) → i < suc n → i ≤ n
+    last n i h = omega arith
+
+-- the first values of a function are a list where they are its values
+pub upto-is : {A : Type 0} (g : ℕ → A) (l : List A) (d : A) → ((i : ℕ) → i < length l → g i ≡ getD l i d) → upto g (length l) ≡ l
+upto-is g l d same =
+    let e = upto-length g (length l) in
+    ext-getD d (upto g (length l)) l e (λ i h. let k : i < length l = omega arith in upto-at g (length l) i d k ∙ same i k)
 
 all-append : {A : Type 0} (P : A → Type 0) (l m : List A) → All P (l ++ m) → All P l × All P m
 all-append P [] m ok = (tt, ok)

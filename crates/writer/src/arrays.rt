@@ -17,7 +17,7 @@ use token::refusal::DONE;
 use token::refusal::ROOM_SHORT;
 
 // The bytes of a sign with p prefix symbols and n signbox symbols.
-fn sign_size(set: Charset, p: usize, n: usize) -> usize
+pub fn sign_size(set: Charset, p: usize, n: usize) -> usize
     requires { ⌜ (p ≤ 32) × (n ≤ 64) ⌝ }
     ensures { λ r. ⌜ r ≡ signSize set p n ⌝ }
 {

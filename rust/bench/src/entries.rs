@@ -23,7 +23,7 @@ fn timed(work: impl FnOnce() -> u64) -> Pass {
 
 pub fn read_library(dictionary: &Dictionary, set: Charset) -> Pass {
     let swu = set == Charset::Swu;
-    let (mut sign, mut answer) = ([0; 229], [0; 2]);
+    let (mut sign, mut answer) = ([0; raw::HALOFRET_SIGN], [0; 2]);
     timed(|| {
         let mut sum = 0;
         for line in dictionary.lines() {

@@ -1,6 +1,6 @@
 //! What the calls answer, taken from the numbers of the C interface.
 
-/// A signbox symbol at its coordinate.
+/// A signbox symbol at its coordinate. Two are equal only if their offsets are.
 #[derive(Clone, Copy, Debug, PartialEq, Eq)]
 pub struct Placed {
     /// From 1 to 61,344: a writing symbol.
@@ -9,15 +9,23 @@ pub struct Placed {
     pub x: u16,
     /// From 250 to 749, as read.
     pub y: u16,
+    /// The byte offset in the text where its key, in SWU its character, begins.
+    pub offset: u16,
 }
 
 const PREFIX: usize = 5;
 const CODES: usize = PREFIX + 32;
 const XS: usize = CODES + 64;
 const YS: usize = XS + 64;
-const RECORD: usize = YS + 64;
+const PREFIX_OFFSETS: usize = YS + 64;
+const SYMBOL_OFFSETS: usize = PREFIX_OFFSETS + 32;
+const RECORD: usize = SYMBOL_OFFSETS + 64;
 
 /// A sign that was read, kept as the C interface wrote it.
+///
+/// Offsets are part of it, and the first symbol stands at 1 or 8 in FSW but at 4 or 12 in SWU:
+/// signs that have a symbol are equal only within one character set.
+/// [`Sign::equals_but_offsets`] compares signs of both.
 #[derive(Clone, Debug, PartialEq, Eq)]
 pub struct Sign {
     record: [u16; RECORD],
@@ -51,13 +59,25 @@ impl Sign {
         &self.record[PREFIX..][..usize::from(self.record[3])]
     }
 
+    /// For each symbol of the prefix the byte offset in the text where its key, in SWU its
+    /// character, begins.
+    pub fn prefix_offsets(&self) -> &[u16] {
+        &self.record[PREFIX_OFFSETS..][..usize::from(self.record[3])]
+    }
+
     /// The signbox symbols in overlap order.
     pub fn symbols(&self) -> impl ExactSizeIterator<Item = Placed> + '_ {
         (0..usize::from(self.record[4])).map(|index| Placed {
             code: self.record[CODES + index],
             x: self.record[XS + index],
             y: self.record[YS + index],
+            offset: self.record[SYMBOL_OFFSETS + index],
         })
+    }
+
+    /// Whether the two are equal in all but offsets, as a sign and its transcription are.
+    pub fn equals_but_offsets(&self, other: &Sign) -> bool {
+        self.record[..PREFIX_OFFSETS] == other.record[..PREFIX_OFFSETS]
     }
 }
 

@@ -80,7 +80,18 @@ fn written(answer: &[u64; 3]) -> Result<usize, Refusal> {
     Ok(answer[2] as usize)
 }
 
-/// Reads a sign.
+/// Reads a sign. It tells where in the text each of its symbols stands.
+///
+/// ```
+/// use halofret::{read, Charset};
+///
+/// let text = b"AS10000M500x500S20500490x485";
+/// let sign = read(Charset::Fsw, text)?;
+/// let mark = sign.symbols().next().unwrap();
+/// assert_eq!(&text[mark.offset.into()..][..6], b"S20500");
+/// assert_eq!(sign.prefix_offsets(), [1]);
+/// # Ok::<(), halofret::Refusal>(())
+/// ```
 pub fn read(charset: Charset, text: &[u8]) -> Result<Sign, Refusal> {
     let mut sign = Sign::default();
     let mut answer = [0; 2];

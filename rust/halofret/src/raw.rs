@@ -4,6 +4,9 @@
 //! order and in its names; the header says what each function writes. Lent memory must
 //! not overlap, and a pointer may be null only where its length is 0.
 
+/// How many numbers a sign has.
+pub const HALOFRET_SIGN: usize = 325;
+
 extern "C" {
     /// The code of a symbol key.
     pub fn halofret_key_to_code(key: *const u8, key_len: usize, answer: *mut [u64; 3]);
@@ -22,7 +25,7 @@ extern "C" {
         swu: bool,
         text: *const u8,
         len: usize,
-        sign: *mut [u16; 229],
+        sign: *mut [u16; HALOFRET_SIGN],
         answer: *mut [u64; 2],
     );
 

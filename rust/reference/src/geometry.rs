@@ -125,6 +125,7 @@ pub fn centred(charset: Charset, text: &[u8], sizes: &[u8], out: &mut [u8]) -> A
     write_moved(charset, &mut sign, maximum, by, out)
 }
 
+/// A moved number keeps its length, so the sign's offsets hold in the text written too.
 fn write_moved(
     charset: Charset,
     sign: &mut Sign,

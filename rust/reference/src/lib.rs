@@ -1,5 +1,5 @@
-//! A plain implementation of document 01 and of requests of document 02, to hold
-//! the proved library against.
+//! A plain implementation of document 01 and of requests of document 02, to
+//! hold the proved library against.
 //!
 //! It was written from the papers alone and shares no code with the library. It is
 //! simple first, but allocates nothing for a line, so that its speed is a fair measure.

@@ -1,4 +1,5 @@
-//! A sign: reading, writing, transcription (document 01, "A sign").
+//! A sign: reading, writing, transcription (document 01, "A sign"; offsets by
+//! document 02, Q-8).
 
 use crate::symbol::{character_bytes, four_bytes, key_bytes};
 use crate::text::{Bytes, Groups, Tokens, LEAST_NUMBER};
@@ -16,6 +17,8 @@ pub struct Placed {
     pub code: u16,
     pub x: u16,
     pub y: u16,
+    /// Where its key, in SWU its character, begins in the text.
+    pub offset: u16,
 }
 
 /// A sign that was read. Places of the arrays beyond the counts are not part of it.
@@ -25,6 +28,7 @@ pub struct Sign {
     marker: u8,
     pub(crate) maximum: (u16, u16),
     prefix: [u16; MOST_PREFIX],
+    prefix_offsets: [u16; MOST_PREFIX],
     prefix_count: usize,
     symbols: [Placed; MOST_SYMBOLS],
     symbol_count: usize,
@@ -35,11 +39,13 @@ impl Sign {
         marker: 0,
         maximum: (0, 0),
         prefix: [0; MOST_PREFIX],
+        prefix_offsets: [0; MOST_PREFIX],
         prefix_count: 0,
         symbols: [Placed {
             code: 0,
             x: 0,
             y: 0,
+            offset: 0,
         }; MOST_SYMBOLS],
         symbol_count: 0,
     };
@@ -55,6 +61,11 @@ impl Sign {
 
     pub fn prefix(&self) -> &[u16] {
         &self.prefix[..self.prefix_count]
+    }
+
+    /// Where the keys of the prefix, in SWU its characters, begin in the text.
+    pub fn prefix_offsets(&self) -> &[u16] {
+        &self.prefix_offsets[..self.prefix_count]
     }
 
     pub fn symbols(&self) -> &[Placed] {
@@ -82,14 +93,17 @@ pub fn read_into(charset: Charset, text: &[u8], sign: &mut Sign) -> Answer<()> {
 }
 
 /// The limits come after the whole text: a symbol too many is counted, not stored,
-/// and a later wrong byte is still the answer.
+/// and a later wrong byte is still the answer. An offset is cut to 16 bits, which hold those
+/// of every sign within the limits.
 fn read_tokens<'a>(mut tokens: impl Tokens<'a>, sign: &mut Sign) -> Answer<()> {
     let mut prefix_count = 0;
     if tokens.prefix_mark() {
         while prefix_count == 0 || tokens.at_symbol() {
+            let offset = tokens.offset();
             let code = tokens.prefix_symbol()?;
-            if let Some(place) = sign.prefix.get_mut(prefix_count) {
-                *place = code;
+            if prefix_count < MOST_PREFIX {
+                sign.prefix[prefix_count] = code;
+                sign.prefix_offsets[prefix_count] = offset as u16;
             }
             prefix_count += 1;
         }
@@ -98,10 +112,12 @@ fn read_tokens<'a>(mut tokens: impl Tokens<'a>, sign: &mut Sign) -> Answer<()> {
     sign.maximum = tokens.coordinate()?;
     let mut symbol_count = 0;
     while !tokens.at_end() {
+        let offset = tokens.offset();
         let code = tokens.box_symbol()?;
         let (x, y) = tokens.coordinate()?;
         if let Some(place) = sign.symbols.get_mut(symbol_count) {
-            *place = Placed { code, x, y };
+            let offset = offset as u16;
+            *place = Placed { code, x, y, offset };
         }
         symbol_count += 1;
     }

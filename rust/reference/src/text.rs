@@ -16,6 +16,8 @@ pub(crate) const GREATEST_NUMBER: u16 = 749;
 /// read, or refuses with the place.
 pub(crate) trait Tokens<'a> {
     fn over(text: &'a [u8]) -> Self;
+    /// The bytes stepped over so far: where the next token begins.
+    fn offset(&self) -> usize;
     fn at_end(&self) -> bool;
     /// Steps over the mark `A` if it stands here.
     fn prefix_mark(&mut self) -> bool;
@@ -191,6 +193,10 @@ impl<'a> Tokens<'a> for Bytes<'a> {
         Bytes { text, at: 0 }
     }
 
+    fn offset(&self) -> usize {
+        self.at
+    }
+
     fn at_end(&self) -> bool {
         self.at == self.text.len()
     }
@@ -298,6 +304,10 @@ impl Groups<'_> {
 impl<'a> Tokens<'a> for Groups<'a> {
     fn over(text: &'a [u8]) -> Self {
         Groups { text, at: 0 }
+    }
+
+    fn offset(&self) -> usize {
+        self.at
     }
 
     fn at_end(&self) -> bool {

@@ -1,8 +1,15 @@
 //! The entries of `include/halofret.h`, each answering the numbers that C is given.
 
-use halofret::Charset;
+use halofret::{raw, Charset};
 
-pub type SignRecord = [u16; 229];
+pub type SignRecord = [u16; raw::HALOFRET_SIGN];
+
+/// The record of a refused sign.
+pub const NO_SIGN: SignRecord = [0; raw::HALOFRET_SIGN];
+
+/// Where the offsets begin in a record, those of the prefix first.
+pub const OFFSETS: usize = 229;
+const SYMBOL_OFFSETS: usize = OFFSETS + 32;
 
 pub trait Interface {
     fn key_to_code(&self, key: &[u8]) -> [u64; 3];
@@ -41,24 +48,32 @@ pub fn numbers<const N: usize>(answer: Result<Vec<u64>, (u8, usize)>) -> [u64; N
     numbers
 }
 
-/// The record of a sign from its parts.
+/// The record of a sign from its parts: codes and offsets of the prefix, and code, x, y and
+/// offset of each signbox symbol.
 pub fn sign_record(
     marker: char,
     maximum: (u16, u16),
-    prefix: &[u16],
-    symbols: impl ExactSizeIterator<Item = [u16; 3]>,
+    prefix: [&[u16]; 2],
+    symbols: impl ExactSizeIterator<Item = [u16; 4]>,
 ) -> SignRecord {
-    let mut record = [0; 229];
+    let mut record = NO_SIGN;
     record[0] = "-BLMR".find(marker).expect("a marker") as u16;
     record[1] = maximum.0;
     record[2] = maximum.1;
-    record[3] = prefix.len() as u16;
+    record[3] = prefix[0].len() as u16;
     record[4] = symbols.len() as u16;
-    record[5..5 + prefix.len()].copy_from_slice(prefix);
+    for (part, numbers) in [5, OFFSETS].into_iter().zip(prefix) {
+        record[part..part + numbers.len()].copy_from_slice(numbers);
+    }
     for (index, symbol) in symbols.enumerate() {
-        for (part, value) in symbol.into_iter().enumerate() {
-            record[37 + 64 * part + index] = value;
+        for (part, number) in [37, 101, 165, SYMBOL_OFFSETS].into_iter().zip(symbol) {
+            record[part + index] = number;
         }
     }
     record
+}
+
+/// The 32 offsets of the prefix symbols and the 64 of the signbox symbols, unused ones too.
+pub fn offsets(record: &SignRecord) -> (&[u16], &[u16]) {
+    record[OFFSETS..].split_at(SYMBOL_OFFSETS - OFFSETS)
 }

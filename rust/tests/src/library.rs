@@ -107,7 +107,7 @@ impl Interface for Library {
 
     fn read(&self, set: Charset, text: &[u8]) -> (SignRecord, [u64; 2]) {
         let mut text = Text::new(text);
-        let mut record = [0xdead; 229];
+        let mut record = [0xdead; raw::HALOFRET_SIGN];
         let numbers = writing(&mut record, 0x5555, |sign, a| unsafe {
             raw::halofret_read(is_swu(set), text.start(), text.len(), sign.cast(), a)
         });

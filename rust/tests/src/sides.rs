@@ -3,7 +3,7 @@
 //! The two are separate crates with separate types, but their names and shapes agree, so one
 //! macro lays out both.
 
-use crate::interface::{numbers, sign_record, Interface, SignRecord};
+use crate::interface::{numbers, sign_record, Interface, SignRecord, NO_SIGN};
 use halofret::Charset;
 
 pub struct Reference;
@@ -60,9 +60,11 @@ macro_rules! side {
 
             fn read(&self, set: Charset, text: &[u8]) -> (SignRecord, [u64; 2]) {
                 let answer = $of::read($set_of(set), text);
-                let record = answer.as_ref().map_or([0; 229], |sign| {
-                    let symbols = sign.symbols().into_iter().map(|s| [s.code, s.x, s.y]);
-                    sign_record(sign.marker(), sign.maximum(), sign.prefix(), symbols)
+                let record = answer.as_ref().map_or(NO_SIGN, |sign| {
+                    let prefix = [sign.prefix(), sign.prefix_offsets()];
+                    let symbols = sign.symbols().into_iter();
+                    let symbols = symbols.map(|s| [s.code, s.x, s.y, s.offset]);
+                    sign_record(sign.marker(), sign.maximum(), prefix, symbols)
                 });
                 (record, lay_out!(answer, |_| vec![]))
             }

@@ -2,6 +2,7 @@
 
 use differential::damage::{damaged, noise};
 use differential::generate::{in_swu, short_sign, sign, sizes};
+use differential::interface::OFFSETS;
 use differential::{cases, Both, Charset, Interface, Random, Tally, BOTH_SETS};
 use std::collections::BTreeSet;
 
@@ -49,6 +50,13 @@ fn text_in(random: &mut Random, set: Charset) -> Vec<u8> {
 fn rooms(random: &mut Random, needed: usize) -> [usize; 4] {
     let too_few = needed.saturating_sub(1);
     [0, too_few, needed, needed + random.between(1, 50)]
+}
+
+/// In the text written each symbol stands where it stood before.
+fn stands_as_before(set: Charset, before: &[u8], written: &[u8]) {
+    let (old, new) = (Both.read(set, before), Both.read(set, written));
+    assert_eq!((old.1, new.1), ([0, 0], [0, 0]));
+    assert_eq!(old.0[OFFSETS..], new.0[OFFSETS..]);
 }
 
 #[test]
@@ -99,6 +107,7 @@ fn centring() {
                 let answer = Both.centred(set, &text, sizes, &mut out);
                 tally.note(answer[0]);
                 if answer[0] == 0 {
+                    stands_as_before(set, &text, &out[..answer[2] as usize]);
                     centred_again(set, sizes, &out, answer);
                 }
             }
@@ -141,6 +150,7 @@ fn shifting() {
                 let answer = Both.shift(set, &text, by, &mut out);
                 tally.note(answer[0]);
                 if answer[0] == 0 {
+                    stands_as_before(set, &text, &out[..answer[2] as usize]);
                     let mut back = vec![0; text.len()];
                     let answer = Both.shift(set, &out[..text.len()], (-by.0, -by.1), &mut back);
                     assert_eq!((answer[0], &back), (0, &text));

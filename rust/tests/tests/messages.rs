@@ -129,7 +129,7 @@ fn null_pointers() {
     let (none, no_bytes, no_list) = (ptr::null(), ptr::null_mut(), ptr::null_mut());
     let query = b"Q";
     let (mut three, mut four, mut two) = ([9; 3], [9; 4], [9; 2]);
-    let (mut sign, mut centre, mut nineteen) = ([9; 229], [9.0; 2], [9; 19]);
+    let (mut sign, mut centre, mut nineteen) = ([9; raw::HALOFRET_SIGN], [9.0; 2], [9; 19]);
     // SAFETY: a null pointer goes with length 0, every other with its own length.
     unsafe {
         raw::halofret_key_to_code(none, 0, &mut three);
@@ -139,7 +139,7 @@ fn null_pointers() {
         raw::halofret_transcribe(false, none, 0, no_bytes, 0, &mut three);
         assert_eq!(three, [2, 0, 0]);
         raw::halofret_read(true, none, 0, &mut sign, &mut two);
-        assert_eq!((two, sign), ([2, 0], [9; 229]));
+        assert_eq!((two, sign), ([2, 0], [9; raw::HALOFRET_SIGN]));
         raw::halofret_boxes(
             false,
             b"M500x500".as_ptr(),

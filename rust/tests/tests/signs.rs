@@ -1,13 +1,15 @@
 //! Reading and transcribing, in both sets, valid and damaged, at and over the limits.
 
+use differential::both::shown;
 use differential::damage::{damaged, noise};
 use differential::generate::{in_swu, sign, sign_of};
+use differential::interface::{offsets, SignRecord, OFFSETS};
 use differential::{cases, Both, Charset, Interface, Random, Tally, BOTH_SETS};
 use Charset::{Fsw, Swu};
 
 /// Reads and transcribes a text with every kind of room; answers the refusal number.
 fn check(random: &mut Random, set: Charset, text: &[u8]) -> u64 {
-    let (_, [number, place]) = Both.read(set, text);
+    let (record, [number, place]) = Both.read(set, text);
     let mut none = [];
     let answer = Both.transcribe(set, text, &mut none);
     if number != 0 {
@@ -25,16 +27,58 @@ fn check(random: &mut Random, set: Charset, text: &[u8]) -> u64 {
         let answer = Both.transcribe(set, text, &mut out);
         assert_eq!(answer[0], if room < needed { 6 } else { 0 });
     }
+    check_offsets(set, text, &record);
     there_and_back(set, text, needed);
     number
 }
 
-/// The transcription reads as an equal sign and transcribes back to the same bytes.
+/// At each offset its symbol is found, the offsets are all the places where a symbol begins, in
+/// their order, and unused places hold 0.
+fn check_offsets(set: Charset, text: &[u8], record: &SignRecord) {
+    let (prefix, symbols) = offsets(record);
+    let (prefix, unused_prefix) = prefix.split_at(record[3].into());
+    let (symbols, unused_symbols) = symbols.split_at(record[4].into());
+    let mut unused = unused_prefix.iter().chain(unused_symbols);
+    assert!(unused.all(|&offset| offset == 0));
+
+    let offsets = [prefix, symbols].concat();
+    assert!(offsets.is_sorted_by(|before, after| before < after));
+    let codes = record[5..].iter().take(prefix.len());
+    let codes = codes.chain(&record[37..][..symbols.len()]);
+    for (&offset, &code) in offsets.iter().zip(codes) {
+        let from = &text[offset.into()..];
+        let found = match set {
+            Fsw => Both.key_to_code(&from[..6]),
+            Swu => Both.char_to_code(&from[..4]),
+        };
+        assert_eq!(found, [0, 0, code.into()], "{offset} in {}", shown(text));
+    }
+    assert_eq!(offsets, places_of_symbols(set, text));
+}
+
+/// The places of the byte that every key or every symbol's character begins with, and that
+/// stands nowhere else in a sign.
+fn places_of_symbols(set: Charset, text: &[u8]) -> Vec<u16> {
+    let first = match set {
+        Fsw => b'S',
+        Swu => 0xf1,
+    };
+    let places = (0..).zip(text).filter(|&(_, &byte)| byte == first);
+    places.map(|(place, _)| place).collect()
+}
+
+/// The transcription reads as a sign equal in all but offsets, equal in these too only if there
+/// is no symbol, and transcribes back to the same bytes.
 fn there_and_back(set: Charset, text: &[u8], needed: usize) {
     let mut out = vec![0; needed];
     Both.transcribe(set, text, &mut out);
     let other = if set == Fsw { Swu } else { Fsw };
-    assert_eq!(Both.read(set, text), Both.read(other, &out));
+    let (record, answer) = Both.read(set, text);
+    let (transcribed, same_answer) = Both.read(other, &out);
+    assert_eq!(answer, same_answer);
+    assert_eq!(record[..OFFSETS], transcribed[..OFFSETS]);
+    let without_symbols = record[3..5] == [0, 0];
+    assert_eq!(record == transcribed, without_symbols, "{}", shown(text));
     let mut back = vec![0; text.len()];
     Both.transcribe(other, &out, &mut back);
     assert_eq!(back, text);

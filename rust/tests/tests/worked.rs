@@ -1,7 +1,8 @@
 //! The worked examples of document 01 and of its open points, by all sides. Places in numbers are
-//! those of document 02, Q-5.
+//! those of document 02, Q-5, and offsets those of its Q-8.
 
 use differential::generate::in_swu;
+use differential::interface;
 use differential::{Both, Charset, Interface};
 use Charset::{Fsw, Swu};
 
@@ -23,6 +24,20 @@ fn fsw(text: impl AsRef<[u8]>) -> Refusal {
 
 fn swu(text: impl AsRef<[u8]>) -> Refusal {
     refusal(&Both.read(Swu, text.as_ref()).1)
+}
+
+/// The offsets of the prefix symbols and of the signbox symbols.
+fn offsets(set: Charset, text: &[u8]) -> [Vec<u16>; 2] {
+    let (record, answer) = Both.read(set, text);
+    assert_eq!(answer, [0, 0]);
+    let (prefix, symbols) = interface::offsets(&record);
+    let used = |offsets: &[u16], count: u16| offsets[..count.into()].to_vec();
+    [used(prefix, record[3]), used(symbols, record[4])]
+}
+
+/// The same in FSW and in SWU.
+fn offsets_in_both(fsw: &[u8]) -> [[Vec<u16>; 2]; 2] {
+    [offsets(Fsw, fsw), offsets(Swu, &in_swu(fsw).unwrap())]
 }
 
 fn query(text: impl AsRef<[u8]>) -> Refusal {
@@ -126,6 +141,30 @@ fn limits_of_a_sign() {
     let longest = in_swu(longest.as_bytes()).unwrap();
     assert_eq!(longest.len(), 912);
     assert_eq!(swu(longest), (0, 0));
+}
+
+#[test]
+fn offsets_of_symbols() {
+    let of_k = [[[1, 7], [21, 34]], [[4, 8], [24, 36]]];
+    assert_eq!(offsets_in_both(K), of_k);
+    let one_in_prefix = [[vec![1], vec![]], [vec![4], vec![]]];
+    assert_eq!(offsets_in_both(b"AS10000M500x500"), one_in_prefix);
+    let one_in_signbox = [[vec![], vec![8]], [vec![], vec![12]]];
+    assert_eq!(offsets_in_both(b"M500x500S10000500x500"), one_in_signbox);
+
+    let prefix = "S10000".repeat(32);
+    let longest = format!("A{prefix}M500x500{}", "S10000500x500".repeat(64));
+    let [in_fsw, in_swu] = offsets_in_both(longest.as_bytes());
+    let last = |offsets: &Vec<u16>| offsets[offsets.len() - 1];
+    assert_eq!(in_fsw.each_ref().map(last), [187, 1_020]);
+    assert_eq!(in_swu.each_ref().map(last), [128, 900]);
+}
+
+#[test]
+fn equal_in_both_sets_without_symbols() {
+    let transcribed = in_swu(b"M500x500").unwrap();
+    assert_eq!(Both.read(Fsw, b"M500x500"), Both.read(Swu, &transcribed));
+    assert_eq!(offsets_in_both(b"M500x500"), [[[0; 0]; 2]; 2]);
 }
 
 #[test]

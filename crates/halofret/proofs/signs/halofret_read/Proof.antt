@@ -1,5 +1,6 @@
 use mathlib.Core.Path.{refl}
-use Rattle.halofret.proofs.Counts.{counted, told-done, told-refused}
+use Rattle.sign.proofs.Readings.{counted}
+use Rattle.halofret.proofs.Counts.{told-done, told-refused}
 use borrow.Author.Needs.{needs}
 use Rattle.halofret.proofs.signs.halofret_read.Statement.{statement}
 use Rattle.halofret.proofs.signs.halofret_read.Tie as tie

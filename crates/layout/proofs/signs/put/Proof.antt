@@ -23,13 +23,13 @@ shared-slice-read-to : tie.Need-shared-slice-read-to Inv-loop μ-loop
 shared-slice-read-to c = omega arith
 
 add-to : tie.Need-add-to Inv-loop μ-loop
-add-to c = omega arith
+add-to c = let n = copy-length (c .before .before .before .args .to .now) (c .before .before .before .args .at) (c .before .before .before .args .from .now) (c .before .before .before .pre) (c .before .before .loop .i) (c .before .before .loop .to) (c .before .before .loop .inv .1) (c .before .before .loop .inv .0) in omega arith
 
 mul-to-2 : tie.Need-mul-to-2 Inv-loop μ-loop
-mul-to-2 c = omega arith
+mul-to-2 c = let n = copy-length (c .before .before .before .args .to .now) (c .before .before .before .args .at) (c .before .before .before .args .from .now) (c .before .before .before .pre) (c .before .before .loop .i) (c .before .before .loop .to) (c .before .before .loop .inv .1) (c .before .before .loop .inv .0) in omega arith
 
-element-write-to : tie.Need-element-write-to Inv-loop μ-loop
-element-write-to c = omega arith
+slice-write-to : tie.Need-slice-write-to Inv-loop μ-loop
+slice-write-to c = let n = copy-length (c .before .before .before .args .to .now) (c .before .before .before .args .at) (c .before .before .before .args .from .now) (c .before .before .before .pre) (c .before .before .loop .i) (c .before .before .loop .to) (c .before .before .loop .inv .1) (c .before .before .loop .inv .0) in omega arith
 
 add-i : tie.Need-add-i Inv-loop μ-loop
 add-i c = omega arith
@@ -38,14 +38,15 @@ loop-less : tie.Need-loop-less Inv-loop μ-loop
 loop-less c = omega arith
 
 loop-again : tie.Need-loop-again Inv-loop μ-loop
-loop-again c = (omega arith, copy-on (c .before .before .before .args .to .now) (c .before .before .before .args .at) (c .before .before .before .args .from .now) (omega arith) (c .before .before .loop .i) (c .before .before .loop .to) (c .before .before .loop .inv .1) (omega arith))
+loop-again c = (omega arith, copy-on (c .before .before .before .args .to .now) (c .before .before .before .args .at) (c .before .before .before .args .from .now) (c .before .before .before .pre) (c .before .before .loop .i) (c .before .before .loop .to) (c .before .before .loop .inv .1) (omega arith))
+
+same-length : tie.Need-same-length Inv-loop μ-loop
+same-length c = copy-length (c .before .before .args .to .now) (c .before .before .args .at) (c .before .before .args .from .now) (c .before .before .pre) (c .before .loop .i) (c .before .loop .to) (c .before .loop .inv .1) (c .before .loop .inv .0)
 
 returns : tie.Need-returns Inv-loop μ-loop
 returns c =
     let e : c .before .loop .i ≡ length (c .before .before .args .from .now) = omega arith in
-    let p = c .before .loop .inv .1 ∙ ap (paste (c .before .before .args .to .now) (c .before .before .args .at) (c .before .before .args .from .now)) e in
-    let n = copy-length (c .before .before .args .to .now) (c .before .before .args .at) (c .before .before .args .from .now) (omega arith) (c .before .loop .i) (c .before .loop .to) (c .before .loop .inv .1) (omega arith) in
-    (p, omega arith)
+    c .before .loop .inv .1 ∙ ap (paste (c .before .before .args .to .now) (c .before .before .args .at) (c .before .before .args .from .now)) e
 
 pub put-spec : {M : Type 1} → statement M
 put-spec =
@@ -58,8 +59,9 @@ put-spec =
     shared-slice-read-to
     add-to
     mul-to-2
-    element-write-to
+    slice-write-to
     add-i
     loop-less
     loop-again
+    same-length
     returns)

@@ -1,15 +1,15 @@
-use lib.ListN.{replicate}
-use mathlib.Core.Path.{refl}
+use Rattle.reader.proofs.Filling.{padded-length}
+use Rattle.sign.specs.Inner.{signIn}
 use Rattle.layout.proofs.Laying.{whole-sign}
 use borrow.Author.Needs.{needs}
 use Rattle.layout.proofs.signs.put_sign.Statement.{statement}
 use Rattle.layout.proofs.signs.put_sign.Tie as tie
 
-cast-t8 : tie.Need-cast-t8
-cast-t8 c = search needs
+cast-t11 : tie.Need-cast-t11
+cast-t11 c = search needs
 
-cast-t9 : tie.Need-cast-t9
-cast-t9 c = search needs
+cast-t12 : tie.Need-cast-t12
+cast-t12 c = search needs
 
 slice-aggregate-put : tie.Need-slice-aggregate-put
 slice-aggregate-put c = search needs
@@ -29,19 +29,31 @@ put-requires-4 c κs = search needs
 put-requires-5 : tie.Need-put-requires-5
 put-requires-5 c κs = search needs
 
+put-prefix-offsets-requires : tie.Need-put-prefix-offsets-requires
+put-prefix-offsets-requires c κs = search needs
+
+put-symbol-offsets-requires : tie.Need-put-symbol-offsets-requires
+put-symbol-offsets-requires c κs = search needs
+
 returns : tie.Need-returns
-returns c = whole-sign (c .before .before .before .before .before .before .before .before .before .before .before .before .before .before .before .before .before .before .args .h) (c .before .before .before .before .before .before .before .before .before .before .before .before .before .before .before .before .before .before .args .prefix .now) (c .before .before .before .before .before .before .before .before .before .before .before .before .before .before .before .before .before .before .args .codes .now) (c .before .before .before .before .before .before .before .before .before .before .before .before .before .before .before .before .before .before .args .xs .now) (c .before .before .before .before .before .before .before .before .before .before .before .before .before .before .before .before .before .before .args .ys .now) (replicate 229 0) _ _ _ _ _ refl (c .before .before .before .before .before .before .before .before .before .before .put-arg3 .given .0) (c .before .before .before .before .before .before .before .put-arg5 .given .0) (c .before .before .before .before .put-arg7 .given .0) (c .before .put-arg9 .given .0) (c .before .before .before .before .before .before .before .before .before .before .before .before .put .ensures .0) (c .before .before .before .before .before .before .before .before .before .put2 .ensures .0) (c .before .before .before .before .before .before .put3 .ensures .0) (c .before .before .before .put4 .ensures .0) (c .put5 .ensures .0)
+returns c =
+    let s = signIn (c .before .before .before .before .before .before .before .before .before .before .before .before .before .before .before .before .before .before .before .args .set) (c .before .before .before .before .before .before .before .before .before .before .before .before .before .before .before .before .before .before .before .args .h) (c .before .before .before .before .before .before .before .before .before .before .before .before .before .before .before .before .before .before .before .args .prefix .now) (c .before .before .before .before .before .before .before .before .before .before .before .before .before .before .before .before .before .before .before .args .codes .now) (c .before .before .before .before .before .before .before .before .before .before .before .before .before .before .before .before .before .before .before .args .xs .now) (c .before .before .before .before .before .before .before .before .before .before .before .before .before .before .before .before .before .before .before .args .ys .now) in
+    whole-sign s (c .before .before .before .before .before .before .before .before .before .before .before .before .before .before .before .before .before .before .before .args .sign .now) _ _ _ _ _ _ _ (c .before .before .before .before .before .before .before .before .before .before .before .before .before .before .before .before .before .before .put-arg .given .0 .1)
+    (c .before .before .before .before .before .before .before .before .before .before .before .before .before .before .put-arg3 .given .0) (c .before .before .before .before .before .before .before .before .before .before .before .put-arg5 .given .0) (c .before .before .before .before .before .before .before .before .put-arg7 .given .0) (c .before .before .before .before .before .put-arg9 .given .0) (padded-length 32 _) (padded-length 64 _)
+    (c .before .before .before .before .before .before .before .before .before .before .before .before .before .before .before .before .put .ensures) (c .before .before .before .before .before .before .before .before .before .before .before .before .before .put2 .ensures) (c .before .before .before .before .before .before .before .before .before .before .put3 .ensures) (c .before .before .before .before .before .before .before .put4 .ensures) (c .before .before .before .before .put5 .ensures) (c .before .before .put-prefix-offsets .ensures) (c .put-symbol-offsets .ensures)
 
 pub put-sign-spec : {M : Type 1} → statement M
 put-sign-spec =
     tie.close
     (tie.spec
-    cast-t8
-    cast-t9
+    cast-t11
+    cast-t12
     slice-aggregate-put
     put-requires
     put-requires-2
     put-requires-3
     put-requires-4
     put-requires-5
+    put-prefix-offsets-requires
+    put-symbol-offsets-requires
     returns)

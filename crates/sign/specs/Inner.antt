@@ -1,0 +1,28 @@
+-- A sign that was read into arrays.
+use Prim.Native.Nat.{ℕ, _≤_}
+use mathlib.Core.List.{List}
+use Rattle.charset.specs.declared.Charset.{Charset}
+use Rattle.grammar.specs.Offsets.{prefixOffsets, symbolOffsets}
+use Rattle.token.specs.Padded.{padded}
+use Rattle.reader.specs.declared.arrays.Head.{Head}
+use Rattle.sign.specs.declared.Sign.{Sign}
+
+abbrev pub signIn : Charset → Head → List ℕ → List ℕ → List ℕ → List ℕ → Sign
+signIn set h prefix codes xs ys = record {
+  marker = h .marker;
+  «max_x» = h .«max_x»;
+  «max_y» = h .«max_y»;
+  «prefix_count» = h .«prefix_count»;
+  «symbol_count» = h .«symbol_count»;
+  prefix = prefix;
+  codes = codes;
+  xs = xs;
+  ys = ys;
+  «prefix_offsets» = padded 32 (prefixOffsets set (h .«prefix_count»));
+  «symbol_offsets» = padded 64 (symbolOffsets set (h .«prefix_count») (h .«symbol_count»));
+}
+
+-- counts within the limits
+pub record Counted (h : Head) : Type 0 where
+  pub prefix : h .«prefix_count» ≤ 32
+  pub symbols : h .«symbol_count» ≤ 64
