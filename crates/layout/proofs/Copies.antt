@@ -1,11 +1,12 @@
 -- Numbers copied into an array one after the other, until they fill it.
-use Prim.Native.Nat.{ℕ, _+_, _≤_, _<_}
+use Prim.Native.Nat.{ℕ, _+_, _-_, _≤_, _<_}
 use mathlib.Core.List.{List, [], _++_}
 use mathlib.Core.Path.{_≡_, refl, sym, ap, _∙_}
-use lib.ListN.{length, set, getD, take}
-use lib.Seq.{paste, paste-suc, length-paste, take-paste, take-all}
+use lib.ListN.{length, set, getD, take, drop, length-replicate, replicate-append-replicate}
+use lib.Seq.{paste, paste-suc, length-paste, take-paste, drop-paste, take-all, drop-drop, drop-at}
 use native.Mathlib.Numerals.{add-one}
 use native.Mathlib.Omega.{arith}
+use Rattle.token.specs.Padded.{zeros}
 
 -- i numbers are copied
 module _ (d : List ℕ) (at : ℕ) (s : List ℕ) (room : at + length s ≤ length d) where
@@ -15,22 +16,29 @@ module _ (d : List ℕ) (at : ℕ) (s : List ℕ) (room : at + length s ≤ leng
   pub copy-length : (i : ℕ) (e : List ℕ) → e ≡ paste d at s i → i ≤ length s → length e ≡ length d
   copy-length i e p h = ap length p ∙ length-paste d at s i (omega arith) h
 
--- the first n numbers of an array
+-- the first n numbers of an array, and zeros after them
 pub record Filled (size n : ℕ) (array front : List ℕ) : Type 0 where
   pub whole : length array ≡ size
   pub is : take n array ≡ front
+  pub rest : drop n array ≡ zeros (size - n)
 
-pub filled-none : (size : ℕ) (array : List ℕ) → length array ≡ size → Filled size 0 array []
-filled-none size array h = record { whole = h; is = refl }
+zeros-left : (a b : ℕ) → drop a (zeros (a + b)) ≡ zeros b
+zeros-left a b = ap (drop a) (sym (replicate-append-replicate a b 0)) ∙ drop-at (zeros a) (zeros b) a (length-replicate a 0)
+
+pub filled-none : (size : ℕ) → Filled size 0 (zeros size) []
+filled-none size = record { whole = length-replicate size 0; is = refl; rest = let k : size ≡ size - 0 = omega arith in ap zeros k }
 
 pub filled-more : (size at n : ℕ) (d e front s : List ℕ) → Filled size at d front → e ≡ paste d at s (length s) → n ≡ at + length s → n ≤ size
     → Filled size n e (front ++ s)
 filled-more size at n d e front s f p q h =
     let w = f .whole in
+    let k : size - at ≡ length s + (size - n) = omega arith in
     record {
       whole = copy-length d at s (omega arith) (length s) e p (omega arith) ∙ w;
       is = ap (λ k. take k e) q ∙ ap (take (at + length s)) p ∙ take-paste d at s (length s) (omega arith) (omega arith)
           ∙ (λ i. f .is i ++ take-all (length s) s (omega arith) i);
+      rest = ap (λ k. drop k e) q ∙ ap (drop (at + length s)) p ∙ drop-paste d at s (length s) (omega arith) (omega arith)
+          ∙ sym (drop-drop (length s) at d) ∙ ap (drop (length s)) (f .rest ∙ ap zeros k) ∙ zeros-left (length s) (size - n);
     }
 
 pub filled-all : (size : ℕ) (array front : List ℕ) → Filled size size array front → array ≡ front

@@ -22,7 +22,7 @@ fn put(to: &mut [u16], at: usize, from: &[u16])
     }
 }
 
-// Lays a sign out that was read into arrays.
+// Lays a sign out that was read into arrays. The zeros stay in the places of offsets that a sign has no symbols for.
 pub fn put_sign(
     sign: &mut [u16; 325],
     set: Charset,
@@ -38,6 +38,7 @@ pub fn put_sign(
     let p = h.prefix_count;
     let n = h.symbol_count;
     let head = [h.marker, h.max_x, h.max_y, p as u16, n as u16];
+    *sign = [0u16; 325];
     put(sign, 0, &head);
     put(sign, 5, prefix);
     put(sign, 37, codes);

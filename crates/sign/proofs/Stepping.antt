@@ -1,10 +1,10 @@
 -- A loop that puts offsets into an array, each so many bytes after the one before, and zeros after them.
 use Prim.Native.Nat.{ℕ, zero, suc, _+_, _-_, _*_, _/_, _%_, _≤_, _<_}
 use mathlib.Core.List.{List, [], _∷_, _++_, append-assoc, append-nil}
-use mathlib.Core.Path.{_≡_, refl, sym, ap, _∙_}
+use mathlib.Core.Path.{_≡_, refl, sym, ap, subst, _∙_}
 use mathlib.Core.Bool.{Bool, true, false}
 use lib.Dec.{ltb}
-use lib.ListN.{length, getD, set, take, drop, length-set, length-append, drop-of-length-le, List·getD-eq-default}
+use lib.ListN.{length, getD, set, take, drop, length-set, length-append, take-append-drop, drop-of-length-le, List·getD-eq-default}
 use lib.Seq.{paste, paste-zero, paste-suc, take-paste, drop-paste, take-all, drop-drop}
 use native.Mathlib.Omega.{arith}
 use native.Mathlib.Nat.{suc-mul, mul-le-mul-right}
@@ -18,8 +18,9 @@ use Rattle.grammar.specs.Size.{spatialSize, signSize}
 use Rattle.grammar.specs.Offsets.{steps}
 use Rattle.grammar.proofs.SignSize.{size-most}
 use Rattle.grammar.proofs.Offsets.{steps-length, steps-at}
-use Rattle.token.specs.Padded.{padded}
-use Rattle.reader.proofs.Filling.{padded-length}
+use Rattle.token.specs.Padded.{padded, zeros}
+use Rattle.reader.proofs.Filling.{padded-length, padded-none}
+use Rattle.sign.specs.Inner.{Cleared}
 use Rattle.sign.proofs.Packed.{padded-at}
 
 -- what stands in a place
@@ -42,9 +43,10 @@ step-used i n r h k l e = go (ltb i n) refl
     go true q = let less = ltb-true i n q in omega arith
     go false q = let more = ltb-false i n q in omega arith
 
-pub step-small : (value used : ℕ) (t : Bool) → used ≡ choose t 1 0 → value ≤ 65535 → value * used ≤ 65535
-step-small value used true e h = rw e (omega arith)
-step-small value used false e h = rw e (omega arith)
+pub step-small : (value used : ℕ) → used ≤ 1 → value ≤ 65535 → value * used ≤ 65535
+step-small value zero h k = omega arith
+step-small value (suc zero) h k = omega arith
+step-small value (suc (suc used)) h k = absurd (omega arith)
 
 pub step-is : (value used : ℕ) (t : Bool) → used ≡ choose t 1 0 → value * used ≡ choose t value 0
 step-is value used true e = rw e (omega arith)
@@ -113,27 +115,55 @@ padded-steps (suc a) b first size (suc n) =
     ap (λ l. first ∷ l) ((λ i. padded a (steps (first + size) size n) ++ padded b (steps (f i) size (m i))) ∙ padded-steps a b (first + size) size n)
     ∙ ap (λ j. padded j (steps first size (suc n))) (sym k)
 
--- the first eight places, and the rest
-module _ (old : List ℕ) (at room first size n : ℕ) (least : 8 ≤ room) (fits : at + room ≤ length old) where
-  abbrev rest : List ℕ
-  rest = steps (first + 8 * size) size (n - 8)
+-- what stands there already may be pasted
+paste-same : (d s : List ℕ) (at n : ℕ) → take n (drop at d) ≡ take n s → d ≡ paste d at s n
+paste-same d s at n e =
+    sym (take-append-drop at d)
+    ∙ ap (λ l. take at d ++ l) (sym (take-append-drop n (drop at d)) ∙ (λ i. e i ++ drop-drop n at d i))
+    ∙ sym (append-assoc (take at d) (take n s) (drop (at + n) d))
 
-  pub offsets-many : (new last : List ℕ) → new ≡ paste old at (padded 8 (steps first size n)) 8 → last ≡ paste new (at + 8) (padded (room - 8) rest) (room - 8)
+zeros-drop : (a b : ℕ) (l : List ℕ) → take (a + b) l ≡ zeros (a + b) → take b (drop a l) ≡ zeros b
+zeros-drop zero b l e = let k : 0 + b ≡ b = omega arith in subst (λ n. take n l ≡ zeros n) k e
+zeros-drop (suc a) b [] e = let k : suc a + b ≡ suc (a + b) = omega arith in absurd (empty (subst (λ n. take n [] ≡ zeros n) k e))
+  where
+    empty : [] ≡ zeros (suc (a + b)) → ⊥
+    empty q = let z : 0 ≡ suc (length (zeros (a + b))) = ap length q in omega arith
+zeros-drop (suc a) b (x ∷ l) e = let k : suc a + b ≡ suc (a + b) = omega arith in zeros-drop a b l (ap tail (subst (λ n. take n (x ∷ l) ≡ zeros n) k e))
+  where
+    tail : List ℕ → List ℕ
+    tail [] = []
+    tail (y ∷ m) = m
+
+-- the first eight places, and the rest
+module _ (old : List ℕ) (at room first size n : ℕ) (clear : Cleared old at room) (least : 8 ≤ room) where
+  abbrev rest : List ℕ
+  rest = padded (room - 8) (steps (first + 8 * size) size (n - 8))
+
+  pub offsets-many : (new last : List ℕ) → new ≡ paste old at (padded 8 (steps first size n)) 8 → last ≡ paste new (at + 8) rest (room - 8)
       → last ≡ paste old at (padded room (steps first size n)) room
   offsets-many new last p q =
       let r : 8 + (room - 8) ≡ room = omega arith in
+      let k = padded-length (room - 8) (steps (first + 8 * size) size (n - 8)) in
       q
-      ∙ ap (λ d. paste d (at + 8) (padded (room - 8) rest) (room - 8)) p
-      ∙ paste-twice old (padded 8 (steps first size n)) (padded (room - 8) rest) at 8 (room - 8) (padded-length 8 (steps first size n)) (padded-length (room - 8) rest) (omega arith)
+      ∙ ap (λ d. paste d (at + 8) rest (room - 8)) p
+      ∙ paste-twice old (padded 8 (steps first size n)) rest at 8 (room - 8) (padded-length 8 (steps first size n)) k (omega (arith, clear .fits))
       ∙ (λ i. paste old at (padded-steps 8 (room - 8) first size n i) (8 + (room - 8)))
       ∙ (λ i. paste old at (padded (r i) (steps first size n)) (r i))
 
-  pub offsets-few : n ≤ 8 → (new last : List ℕ) → new ≡ paste old at (padded 8 (steps first size n)) 8
-      → last ≡ paste new (at + 8) (padded (room - 8) (steps 0 0 0)) (room - 8) → last ≡ paste old at (padded room (steps first size n)) room
+  pub offsets-few : n ≤ 8 → (new : List ℕ) → new ≡ paste old at (padded 8 (steps first size n)) 8 → new ≡ paste old at (padded room (steps first size n)) room
   unfolding steps
-  offsets-few h new last p q =
-      let z : 0 ≡ n - 8 = omega arith in
-      offsets-many new last p (q ∙ ap (λ k. paste new (at + 8) (padded (room - 8) (steps (first + 8 * size) size k)) (room - 8)) z)
+  offsets-few h new p =
+      let z : n - 8 ≡ 0 = omega arith in
+      let r : room ≡ 8 + (room - 8) = omega arith in
+      let none : rest ≡ zeros (room - 8) = ap (λ k. padded (room - 8) (steps (first + 8 * size) size k)) z ∙ sym (padded-none (room - 8)) in
+      let still : take (room - 8) (drop (at + 8) new) ≡ zeros (room - 8) =
+      ap (λ d. take (room - 8) (drop (at + 8) d)) p
+      ∙ ap (take (room - 8)) (drop-paste old at (padded 8 (steps first size n)) 8 (omega (arith, clear .fits)) (omega (arith, padded-length 8 (steps first size n))))
+      ∙ ap (take (room - 8)) (sym (drop-drop 8 at old))
+      ∙ zeros-drop 8 (room - 8) (drop at old) (subst (λ k. take k (drop at old) ≡ zeros k) r (clear .is)) in
+      let k = padded-length (room - 8) (steps (first + 8 * size) size (n - 8)) in
+      offsets-many new new p
+      (paste-same new rest (at + 8) (room - 8) (still ∙ sym none ∙ sym (take-all (room - 8) rest (omega arith))))
 
 -- what fills an array is all of it
 pub paste-whole : (n : ℕ) (d s : List ℕ) → length d ≡ n → length s ≡ n → paste d 0 s n ≡ s

@@ -1,9 +1,11 @@
--- A sign that was read into arrays.
-use Prim.Native.Nat.{ℕ, _≤_}
+-- A sign that was read into arrays, and places for its offsets.
+use Prim.Native.Nat.{ℕ, _+_, _≤_}
+use mathlib.Core.Path.{_≡_}
 use mathlib.Core.List.{List}
+use lib.ListN.{length, take, drop}
 use Rattle.charset.specs.declared.Charset.{Charset}
 use Rattle.grammar.specs.Offsets.{prefixOffsets, symbolOffsets}
-use Rattle.token.specs.Padded.{padded}
+use Rattle.token.specs.Padded.{padded, zeros}
 use Rattle.reader.specs.declared.arrays.Head.{Head}
 use Rattle.sign.specs.declared.Sign.{Sign}
 
@@ -21,6 +23,11 @@ signIn set h prefix codes xs ys = record {
   «prefix_offsets» = padded 32 (prefixOffsets set (h .«prefix_count»));
   «symbol_offsets» = padded 64 (symbolOffsets set (h .«prefix_count») (h .«symbol_count»));
 }
+
+-- so many places from `at` on are there, and hold zeros
+pub record Cleared (array : List ℕ) (at room : ℕ) : Type 0 where
+  pub fits : at + room ≤ length array
+  pub is : take room (drop at array) ≡ zeros room
 
 -- counts within the limits
 pub record Counted (h : Head) : Type 0 where

@@ -8,6 +8,7 @@ ghost use lib.Seq.{paste};
 ghost use Rattle.format.specs.Format.{choose};
 ghost use Rattle.grammar.specs.Offsets.{steps, prefixOffsets, symbolOffsets};
 ghost use Rattle.token.specs.Padded.{padded};
+ghost use Rattle.sign.specs.Inner.{Cleared};
 use charset::Charset;
 
 // What stands in place i of the offsets of n symbols: 0 after them. The highest bit of i - n tells whether i is less; there is no
@@ -33,22 +34,20 @@ fn put_steps(to: &mut [u16], at: usize, room: usize, first: u16, size: u16, n: u
     }
 }
 
-// The same, the first eight places apart: up to eight symbols need no others, and few signs have more of either kind.
+// The same where the places hold zeros: up to eight symbols need the first eight alone, and few signs have more of either kind.
 fn put_offsets(to: &mut [u16], at: usize, room: usize, first: u16, size: u16, n: u16)
-    requires { ⌜ (8 ≤ room) × (room ≤ 64) × (at + room ≤ length (now to)) × (n ≤ 64) × (first + 72 * size ≤ 65535) ⌝ }
+    requires { ⌜ Cleared (now to) at room × (8 ≤ room) × (room ≤ 64) × (n ≤ 64) × (first + 72 * size ≤ 65535) ⌝ }
     ensures { λ _. ⌜ now (to .exit) ≡ paste (now (to .entry)) at (padded room (steps first size n)) room ⌝ }
 {
     put_steps(to, at, 8, first, size, n);
     if 8 < n {
         put_steps(to, at + 8, room - 8, first + 8 * size, size, n - 8);
-    } else {
-        put_steps(to, at + 8, room - 8, 0, 0, 0);
     }
 }
 
-// Puts the offsets of p prefix symbols into the 32 places from `at` on.
+// Puts the offsets of p prefix symbols into the 32 places from `at` on, which hold zeros.
 pub fn put_prefix_offsets(set: Charset, p: usize, to: &mut [u16], at: usize)
-    requires { ⌜ (p ≤ 32) × (at + 32 ≤ length (now to)) ⌝ }
+    requires { ⌜ (p ≤ 32) × Cleared (now to) at 32 ⌝ }
     ensures { λ _. ⌜ now (to .exit) ≡ paste (now (to .entry)) at (padded 32 (prefixOffsets set p)) 32 ⌝ }
 {
     let first = token::reading::marker_size(set);
@@ -56,9 +55,9 @@ pub fn put_prefix_offsets(set: Charset, p: usize, to: &mut [u16], at: usize)
     put_offsets(to, at, 32, first as u16, size as u16, p as u16);
 }
 
-// Puts the offsets of n signbox symbols, after p prefix symbols, into the 64 places from `at` on.
+// Puts the offsets of n signbox symbols, after p prefix symbols, into the 64 places from `at` on, which hold zeros.
 pub fn put_symbol_offsets(set: Charset, p: usize, n: usize, to: &mut [u16], at: usize)
-    requires { ⌜ (p ≤ 32) × (n ≤ 64) × (at + 64 ≤ length (now to)) ⌝ }
+    requires { ⌜ (p ≤ 32) × (n ≤ 64) × Cleared (now to) at 64 ⌝ }
     ensures { λ _. ⌜ now (to .exit) ≡ paste (now (to .entry)) at (padded 64 (symbolOffsets set p n)) 64 ⌝ }
 {
     let first = writer::arrays::sign_size(set, p, 0);

@@ -21,13 +21,13 @@ slice-aggregate-put-prefix-offsets : tie.Need-slice-aggregate-put-prefix-offsets
 slice-aggregate-put-prefix-offsets c = search needs
 
 put-prefix-offsets-requires : tie.Need-put-prefix-offsets-requires
-put-prefix-offsets-requires c κs = let k = counted _ _ _ _ _ _ _ (c .before .before .read-into .ensures) (c .before .if1 .left) in (k .prefix, omega arith)
+put-prefix-offsets-requires c κs = let k = counted _ _ _ _ _ _ _ (c .before .before .read-into .ensures) (c .before .if1 .left) in (k .prefix, record { fits = omega arith; is = refl })
 
 slice-aggregate-put-symbol-offsets : tie.Need-slice-aggregate-put-symbol-offsets
 slice-aggregate-put-symbol-offsets c = search needs
 
 put-symbol-offsets-requires : tie.Need-put-symbol-offsets-requires
-put-symbol-offsets-requires c κs = let k = counted _ _ _ _ _ _ _ (c .before .before .before .before .before .read-into .ensures) (c .before .before .before .before .if1 .left) in (k .prefix, k .symbols, omega arith)
+put-symbol-offsets-requires c κs = let k = counted _ _ _ _ _ _ _ (c .before .before .before .before .before .read-into .ensures) (c .before .before .before .before .if1 .left) in (k .prefix, k .symbols, record { fits = omega arith; is = refl })
 
 returns-2 : tie.Need-returns-2
 returns-2 c =

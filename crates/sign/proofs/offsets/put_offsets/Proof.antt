@@ -25,26 +25,17 @@ sub-put-steps-2 c = search needs
 put-steps-requires-2 : tie.Need-put-steps-requires-2
 put-steps-requires-2 c κs = search needs
 
-add-put-steps-3 : tie.Need-add-put-steps-3
-add-put-steps-3 c = search needs
-
-sub-put-steps-3 : tie.Need-sub-put-steps-3
-sub-put-steps-3 c = search needs
-
-put-steps-requires-3 : tie.Need-put-steps-requires-3
-put-steps-requires-3 c κs = search needs
-
 same-length : tie.Need-same-length
 same-length c = search needs
 
 returns : tie.Need-returns
-returns c = offsets-many _ _ _ _ _ _ (c .before .before .before .before .before .before .before .before .before .before .pre .0) (c .before .before .before .before .before .before .before .before .before .before .pre .2) _ _ (c .before .before .before .before .before .before .before .put-steps .ensures) (c .before .before .put-steps2 .ensures)
+returns c = offsets-many _ _ _ _ _ _ (c .before .before .before .before .before .before .before .before .before .before .pre .0) (c .before .before .before .before .before .before .before .before .before .before .pre .1) _ _ (c .before .before .before .before .before .before .before .put-steps .ensures) (c .before .before .put-steps2 .ensures)
 
 same-length-2 : tie.Need-same-length-2
 same-length-2 c = search needs
 
 returns-2 : tie.Need-returns-2
-returns-2 c = offsets-few _ _ _ _ _ _ (c .before .before .before .before .before .before .before .before .before .before .pre .0) (c .before .before .before .before .before .before .before .before .before .before .pre .2) (omega (arith, c .before .before .before .before .if1 .left)) _ _ (c .before .before .before .before .before .before .before .put-steps .ensures) (c .before .before .put-steps3 .ensures)
+returns-2 c = offsets-few _ _ _ _ _ _ (c .before .before .before .before .before .before .pre .0) (c .before .before .before .before .before .before .pre .1) (omega (arith, c .if1 .left)) _ (c .before .before .before .put-steps .ensures)
 
 pub put-offsets-spec : {M : Type 1} → statement M
 put-offsets-spec =
@@ -57,9 +48,6 @@ put-offsets-spec =
     add-put-steps-2
     sub-put-steps-2
     put-steps-requires-2
-    add-put-steps-3
-    sub-put-steps-3
-    put-steps-requires-3
     same-length
     returns
     same-length-2

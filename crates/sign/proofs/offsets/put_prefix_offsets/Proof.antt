@@ -30,7 +30,7 @@ cast-put-offsets-3 c = search needs
 put-offsets-requires : tie.Need-put-offsets-requires
 put-offsets-requires c κs =
     let s = small (c .before .before .before .before .args .set) (c .before .before .before .before .args .p) (c .before .before .before .before .pre .0) in
-    (omega arith, omega arith, c .before .before .before .before .pre .1, omega arith, omega (arith, s .marker, s .symbol, c .before .before .marker-size .ensures, c .before .symbol-size .ensures))
+    (c .before .before .before .before .pre .1, omega arith, omega arith, omega arith, omega (arith, s .marker, s .symbol, c .before .before .marker-size .ensures, c .before .symbol-size .ensures))
 
 same-length : tie.Need-same-length
 same-length c = search needs

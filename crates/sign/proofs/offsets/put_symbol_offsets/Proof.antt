@@ -30,7 +30,7 @@ cast-put-offsets-3 c = search needs
 put-offsets-requires : tie.Need-put-offsets-requires
 put-offsets-requires c κs =
     let s = small (c .before .before .before .before .args .set) (c .before .before .before .before .args .p) (c .before .before .before .before .pre .0) in
-    (omega arith, omega arith, c .before .before .before .before .pre .2, omega arith, omega (arith, s .signbox, s .spatial, c .before .before .sign-size .ensures, c .before .spatial-size .ensures))
+    (c .before .before .before .before .pre .2, omega arith, omega arith, omega arith, omega (arith, s .signbox, s .spatial, c .before .before .sign-size .ensures, c .before .spatial-size .ensures))
 
 same-length : tie.Need-same-length
 same-length c = search needs

@@ -1,3 +1,4 @@
+use Prim.Native.Nat.{_/_}
 use native.Mathlib.Omega.{arith}
 use lib.Dec.{ltb}
 use Rattle.sign.proofs.Stepping.{step-fits, step-used, step-small, step-is}
@@ -16,8 +17,7 @@ add-result c = let h = step-fits _ _ _ (c .before .pre .1) (c .before .pre .2) i
 
 mul-result-2 : tie.Need-mul-result-2
 mul-result-2 c =
-    let used = step-used (c .before .args .i) (c .before .args .n) (c .wrapping-sub-u16 .result) (c .before .pre .1) (c .before .pre .0) (omega arith) (c .wrapping-sub-u16 .ensures) in
-    let h = step-small _ _ (ltb (c .before .args .i) (c .before .args .n)) used (step-fits (c .before .args .first) (c .before .args .size) (c .before .args .i) (c .before .pre .1) (c .before .pre .2)) in
+    let h = step-small _ (c .wrapping-sub-u16 .result / 32768) (omega arith) (step-fits (c .before .args .first) (c .before .args .size) (c .before .args .i) (c .before .pre .1) (c .before .pre .2)) in
     omega arith
 
 returns : tie.Need-returns
