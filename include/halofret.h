@@ -3,8 +3,8 @@
  *
  * The overflow policy. Nothing is cut short and no short result is handed out as a whole one.
  * A call that lacks room is refused as 6, and its place is the room needed.
- * A refused call changes no lent byte: out, list, sign and centre stay as they were; in answer
- * all numbers but the refusal and its place are 0.
+ * A refused call changes no lent byte: out, list, sign, styling and centre stay as they were; in
+ * answer all numbers but the refusal and its place are 0.
  *
  * Every call takes any bytes and any numbers, and ends. answer[0] is the refusal number, 0 for
  * done; answer[1] is its place, but not in halofret_fetch, which tells none.
@@ -14,10 +14,10 @@
  * two bytes, width then height, for each code from 1.
  *
  * Memory. Lent buffers must not overlap. A pointer that goes with a length or a room of 0 may be
- * null; sign, centre and answer must not be. No call keeps a pointer, takes memory or has a state:
- * calls on different memory may run at the same time, and any number may read the same text, size
- * list or dictionary. halofret_narrow needs 68 KB of stack below its caller, every other function
- * 4 KB.
+ * null; sign, styling, centre and answer must not be. No call keeps a pointer, takes memory or has
+ * a state: calls on different memory may run at the same time, and any number may read the same
+ * text, size list or dictionary. halofret_narrow needs 68 KB of stack below its caller, every
+ * other function 4 KB.
  *
  * Time grows with the length of what is lent, in halofret_fetch with that of both dictionaries,
  * whichever line is asked for.
@@ -29,7 +29,7 @@
 #include <stddef.h>
 #include <stdint.h>
 
-#define HALOFRET_VERSION "0.2.0"
+#define HALOFRET_VERSION "0.3.0"
 
 #ifdef __cplusplus
 extern "C" {
@@ -40,7 +40,9 @@ enum {
     HALOFRET_DONE = 0,
     HALOFRET_TEXT_WRONG = 1,          /* the text is wrong. Place: the offset of the first wrong
                                          byte, or of the first byte of the coordinate number
-                                         that it is in; in SWU, of the four bytes that hold it */
+                                         that it is in; in SWU, of the four bytes that hold it;
+                                         in a styling always of the byte. The place is 0 where
+                                         the numbers of a styling are wrong */
     HALOFRET_TEXT_SHORT = 2,          /* the text stops early. Place: its length */
     HALOFRET_PREFIX_LONG = 3,         /* over 32 prefix symbols or prefix items */
     HALOFRET_SIGNBOX_LONG = 4,        /* over 64 signbox symbols, or 32 signbox items of a query */
@@ -56,7 +58,11 @@ enum {
     HALOFRET_LINE_WRONG = 13,         /* a line is no sign. Place: the first such line, from 1 */
     HALOFRET_TOO_MANY = 14,           /* over 65,535 lines */
     HALOFRET_CODE_WRONG = 15,         /* the symbol code is over 62,592 */
-    HALOFRET_ENTRY_ABSENT = 16        /* no such entry */
+    HALOFRET_ENTRY_ABSENT = 16,       /* no such entry */
+    HALOFRET_ZOOM_OUTSIDE = 17,       /* a zoom of a styling leaves 0.01 to 99.99, or is spelled
+                                         with over two decimals */
+    HALOFRET_COLOUR_LONG = 18,        /* a colour name of a styling has over 24 letters */
+    HALOFRET_STYLES_LONG = 19         /* a styling has over 64 symbol styles */
 };
 
 /* Sizes: in bytes those of texts and of the size list, else in numbers. */
@@ -65,13 +71,20 @@ enum {
     HALOFRET_CHARACTER_LENGTH = 4,
     HALOFRET_LONGEST_FSW = 1033,
     HALOFRET_LONGEST_SWU = 912,
+    HALOFRET_LONGEST_STYLING = 3547, /* as halofret_write_styling writes it */
     HALOFRET_SIZES = 125184,
     HALOFRET_MOST_CODE = 62592,
     HALOFRET_MOST_PREFIX = 32,
     HALOFRET_MOST_SYMBOLS = 64,
     HALOFRET_MOST_ITEMS = 32,
     HALOFRET_MOST_LINES = 65535,
-    HALOFRET_SIGN = 325
+    HALOFRET_MOST_COLOUR = 24,
+    HALOFRET_MOST_ZOOM = 9999,
+    HALOFRET_MOST_STYLES = 64,
+    HALOFRET_SIGN = 325,
+    HALOFRET_COLOUR = 25,
+    HALOFRET_STYLE = 53,
+    HALOFRET_STYLING = 3472
 };
 
 /* The lengths of the answers. */
@@ -115,6 +128,34 @@ void halofret_read(bool swu, const uint8_t *text, size_t len, uint16_t sign[HALO
  * Refusals 1, 2, 3, 4, 6. */
 void halofret_transcribe(bool swu, const uint8_t *text, size_t len, uint8_t *out, size_t room,
                          uint64_t answer[HALOFRET_WRITTEN_ANSWER]);
+
+/* Reads a sign and the styling that must follow it. A styling is a dash, then each at most once
+ * and in this order: C; P and two digits; G_colour_; D_colour_ or D_colour,colour_; Z and a zoom.
+ * Then a second dash may come, with any number of D01_colour_ or D01_colour,colour_ and after these
+ * any number of Z01,zoom, where 01 stands for any two digits. A colour is letters, or 3 or 6 hex
+ * digits; a zoom is digits, or digits, a point and digits. In SWU too a styling is ASCII.
+ * Writes to sign what halofret_read writes, and to styling:
+ *   [0] 1 for C; [1] 1 + padding; [2] zoom in hundredths; [3] how many colours D has; [4] how many
+ *       symbol styles there are; each 0 for none
+ *   [5..29] the colour of G, [30..54] the first of D, [55..79] its second
+ *   [80 + 53 * i ..] symbol style i, from 0: kind (1 for D, 2 for Z), its two digits as a number,
+ *       zoom in hundredths, first colour, second colour
+ * A colour has 25 numbers: its length, 0 for none, then its bytes as spelled. Unused places hold
+ * zeros. Refusals 1, 2, 17, 18, 19, 3, 4. */
+void halofret_read_styled(bool swu, const uint8_t *text, size_t len, uint16_t sign[HALOFRET_SIGN],
+                          uint16_t styling[HALOFRET_STYLING],
+                          uint64_t answer[HALOFRET_READ_ANSWER]);
+
+/* Writes the sign in the other character set and after it the bytes of its styling as they are, at
+ * the start of out, the length of both in answer[2]. Refusals 1, 2, 17, 18, 19, 3, 4, 6. */
+void halofret_transcribe_styled(bool swu, const uint8_t *text, size_t len, uint8_t *out,
+                                size_t room, uint64_t answer[HALOFRET_WRITTEN_ANSWER]);
+
+/* Writes the shortest text of a styling, its dash first, at the start of out, its length in
+ * answer[2]. Reading it after a sign gives the same styling. styling may hold any numbers: those
+ * that no text reads as are refused as 1 at 0. Refusals 1, 6. */
+void halofret_write_styling(const uint16_t styling[HALOFRET_STYLING], uint8_t *out, size_t room,
+                            uint64_t answer[HALOFRET_WRITTEN_ANSWER]);
 
 /* The boxes of a sign: answer[2..16] has for head, head with trunk, and all: present, left, top,
  * right, bottom. answer[17] and [18] are twice the centre, x then y; centre is the centre itself.

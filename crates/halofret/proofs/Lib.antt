@@ -1,3 +1,4 @@
 pub mod Left
 pub mod Counts
+pub mod StyledCounts
 pub mod Finding

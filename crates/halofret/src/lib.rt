@@ -6,4 +6,5 @@ pub mod dictionaries;
 pub mod drawing;
 pub mod queries;
 pub mod signs;
+pub mod stylings;
 pub mod symbols;

@@ -5,7 +5,7 @@ use mathlib.Core.List.{List, [], _∷_, _++_, append-assoc, append-nil}
 use native.Mathlib.Numerals.{add-one}
 use native.Mathlib.Omega.{arith}
 use lib.ListN.{length, getD, take, length-append}
-use lib.Seq.{take-suc, take-all, length-take-le}
+use lib.Seq.{take-suc, take-all}
 use Rattle.charset.specs.Bytes.{ascii}
 use Rattle.token.specs.Wrote.{Wrote}
 use Rattle.writer.proofs.Writes.{wrote-more, wrote-as}
@@ -19,20 +19,6 @@ line-length key n = omega (arith, length-append (key ++ decimal n) (10 ∷ []), 
 -- a number in at most k digits
 pub line-short : (key : List ℕ) (k n : ℕ) → 0 < k → n < 10 ^ k → length (keyLine key n) ≤ length key + k + 1
 line-short key k n h l = omega (arith, line-length key n, decimal-short k n h l)
-
--- ---- bytes
-
-module _ {o p : List ℕ} {a r : ℕ} (s : List ℕ) (i : ℕ) (w : Wrote o p a r (take i s)) where
-  pub bytes-room : i < length s → a + length s ≤ length o → r < length p
-  bytes-room h l = omega (arith, length-take-le i s (omega arith))
-
-  pub bytes-more : {q : List ℕ} {t : ℕ} → i < length s → Wrote p q r t (getD s i 0 ∷ []) → Wrote o q a t (take (i + 1) s)
-  bytes-more h v = wrote-as (wrote-more w v) (rw add-one (sym (take-suc s i 0 h)))
-
-  pub bytes-all : length s ≤ i → Wrote o p a r s
-  bytes-all h = wrote-as w (take-all i s h)
-
--- ---- entries
 
 entries-last : (es : List ℕ) (e : ℕ) → entryLines (es ++ (e ∷ [])) ≡ entryLines es ++ keyLine (ascii "entry=") e
 unfolding entryLines

@@ -4,19 +4,7 @@ ghost use lib.ListN.{length};
 ghost use Rattle.token.specs.Wrote.{Wrote};
 ghost use Rattle.keylines.specs.Text.{decimal, keyLine, entryLines};
 use writer::tokens::put_byte;
-
-fn put_bytes(out: &mut [u8], at: usize, s: &[u8]) -> usize
-    requires { ⌜ at + length (now s) ≤ length (now out) ⌝ }
-    ensures { λ r. ⌜ Wrote (now (out .entry)) (now (out .exit)) at r (now (s .entry)) ⌝ }
-{
-    let mut next = at;
-    let mut i: usize = 0;
-    while i < s.len() {
-        next = put_byte(out, next, s[i]);
-        i += 1;
-    }
-    next
-}
+use writer::tokens::put_bytes;
 
 fn put_decimal(out: &mut [u8], at: usize, n: usize) -> usize
     requires { ⌜ at + length (decimal n) ≤ length (now out) ⌝ }

@@ -128,7 +128,7 @@ pub struct Head {
     pub symbol_count: usize,
 }
 
-fn no_head(number: u8, place: usize) -> Head
+pub fn no_head(number: u8, place: usize) -> Head
     ensures { λ r. ⌜ r ≡ noHead number place ⌝ }
 {
     Head {
@@ -220,7 +220,7 @@ fn leading_prefix(set: Charset, s: &[u8], codes: &mut [u16; 32]) -> Count
 
 // The sign at the start of a text, whatever the counts and whatever follows. The signbox is read in one place, so that the
 // compiler takes its loop in.
-fn sign_into(
+pub fn sign_into(
     set: Charset,
     s: &[u8],
     prefix: &mut [u16; 32],
@@ -241,7 +241,7 @@ fn sign_into(
 }
 
 // The same where nothing follows the sign.
-fn text_into(
+pub fn text_into(
     set: Charset,
     s: &[u8],
     prefix: &mut [u16; 32],
@@ -277,7 +277,7 @@ fn text_into(
 }
 
 // The limits are judged after the text.
-fn within_limits(h: Head) -> Head
+pub fn within_limits(h: Head) -> Head
     ensures { λ r. ⌜ r ≡ limited h ⌝ }
 {
     let number = h.number;

@@ -45,10 +45,8 @@ module _ (set : Charset) (s : List ℕ) (h : Head) (array codes xs ys : List ℕ
           (λ i. record { number = 0; place = 0; sign = signIn set (k i) (a .0 i) (a .1 .0 i) (a .1 .1 .0 i) (a .1 .1 .1 i) })
           ∙ ap (readingOf set) (sym q)
 
-  -- and its offsets, however they were found
-  abbrev lying : Sign
-  lying = signIn set h array codes xs ys
-
-  pub reading-with : h .number ≡ 0 → (p n : List ℕ) → p ≡ padded 32 (prefixOffsets set (h .«prefix_count»)) → n ≡ padded 64 (symbolOffsets set (h .«prefix_count») (h .«symbol_count»))
-      → record { number = 0; place = 0; sign = withOffsets p n lying } ≡ readingIn set s
-  reading-with z p n e f = (λ i. record { number = 0; place = 0; sign = withOffsets (e i) (f i) lying }) ∙ reading-done z
+-- a sign that lies in arrays, with offsets that were put beside them
+pub packed-with : (set : Charset) (h : Head) (array codes xs ys p n : List ℕ) → p ≡ padded 32 (prefixOffsets set (h .«prefix_count»))
+    → n ≡ padded 64 (symbolOffsets set (h .«prefix_count») (h .«symbol_count»))
+    → _≡_ {A = Reading} (record { number = 0; place = 0; sign = withOffsets p n (signIn set h array codes xs ys) }) (record { number = 0; place = 0; sign = signIn set h array codes xs ys })
+packed-with set h array codes xs ys p n e f i = record { number = 0; place = 0; sign = withOffsets (e i) (f i) (signIn set h array codes xs ys) }

@@ -10,13 +10,18 @@ use Rattle.symbol.specs.Codes.{codeRead, codeText}
 use Rattle.reader.specs.Signs.{signOf}
 use Rattle.sign.specs.Reading.{readingOf}
 use Rattle.sign.specs.Transcription.{transcription}
+use Rattle.stylinggrammar.specs.Styling.{letter, hexadecimal, isColour, beginsColour}
+use Rattle.stylinggrammar.specs.Meaning.{zoomsGood, namesGood, stylesFew}
+use Rattle.stylinggrammar.specs.Styled.{dashAt, readBoth}
+use Rattle.styling.specs.Reading.{styledOf}
+use Rattle.styling.specs.Transcription.{styledTranscription}
 use Rattle.query.specs.Reading.{queryOf}
 use Rattle.matching.specs.Meets.{satisfies, prefixHolds, serves, judged, witnessesOf, verdictOf}
 use Rattle.verdict.specs.Verdict.{verdictOn, verdictIn}
 use Rattle.bounds.specs.Boxes.{grownAll, groupsOf}
 use Rattle.bounds.specs.Sizes.{firstUnsized, measured}
 use Rattle.moving.specs.Moves.{allOf, movedSign, centredSign, centredText}
-use Rattle.starred.specs.Starred.{StarredRows, OtherRows, NumberRows, CentringRows, OffsetRows}
+use Rattle.starred.specs.Starred.{StarredRows, OtherRows, NumberRows, CentringRows, OffsetRows, StylingRows}
 
 pub starred : StarredRows
 unfolding codeRead codeText digitOf markerOf signOf queryOf verdictIn verdictOn verdictOf prefixHolds satisfies judged witnessesOf serves centredText centredSign measured firstUnsized groupsOf keep grownAll movedSign allOf
@@ -88,4 +93,36 @@ offsets = record {
   noPrefix = refl;
   noPrefixInSwu = refl;
   refused = (refl, refl);
+}
+
+pub stylings : StylingRows
+unfolding digitOf markerOf scalarOf signOf letter hexadecimal isColour beginsColour zoomsGood namesGood stylesFew dashAt readBoth styledOf styledTranscription
+stylings = record {
+  all = refl;
+  undashed = refl;
+  dash = refl;
+  dashes = refl;
+  extendable = refl;
+  zoomFirst = refl;
+  offset = refl;
+  classes = refl;
+  notHexadecimal = refl;
+  named = refl;
+  pointLast = refl;
+  zero = refl;
+  hundred = refl;
+  thirdDecimal = refl;
+  small = refl;
+  leadingZero = refl;
+  present = refl;
+  longName = refl;
+  zoomBeforeName = refl;
+  inNumber = refl;
+  extendableInSwu = refl;
+  undashedInSwu = refl;
+  oneByteMore = refl;
+  early = refl;
+  earlyAndCut = refl;
+  transcribed = refl;
+  plain = refl;
 }

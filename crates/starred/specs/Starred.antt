@@ -3,16 +3,20 @@
 use Prim.Native.Nat.{ℕ}
 use mathlib.Core.Path.{_≡_}
 use mathlib.Core.List.{List, [], _∷_, _++_}
-use lib.ListN.{length}
+use lib.ListN.{length, take}
+use Rattle.charset.specs.declared.Charset.{Charset}
 use Rattle.charset.specs.declared.Charset.the-variants.{Fsw, Swu}
 use Rattle.charset.specs.Bytes.{ascii, utf8}
 use Rattle.grammar.specs.Sign.{signText}
-use Rattle.token.specs.Result.{refusal, done}
+use Rattle.token.specs.Result.{Result, refusal, done, onDone}
 use Rattle.token.specs.Padded.{zeros}
 use Rattle.symbol.specs.Codes.{codeRead, codeText}
 use Rattle.reader.specs.Signs.{signOf}
 use Rattle.sign.specs.Reading.{readingIn}
 use Rattle.sign.specs.Transcription.{transcription}
+use Rattle.stylinggrammar.specs.Meaning.{meaning, stylingText}
+use Rattle.styling.specs.Reading.{styledOf}
+use Rattle.styling.specs.Transcription.{styledTranscription}
 use Rattle.query.specs.Reading.{queryOf}
 use Rattle.matching.specs.Meets.{unmet, met, answered}
 use Rattle.verdict.specs.Verdict.{verdictIn}
@@ -101,3 +105,41 @@ pub record OffsetRows : Type 0 where
   pub noPrefix : readingIn Fsw (ascii "M500x500S10000500x500") .sign .«symbol_offsets» ≡ 8 ∷ zeros 63
   pub noPrefixInSwu : readingIn Swu (utf8 0x1d803 ++ (utf8 0x1d906 ++ (utf8 0x1d906 ++ (utf8 0x40001 ++ (utf8 0x1d906 ++ utf8 0x1d906))))) .sign .«symbol_offsets» ≡ 12 ∷ zeros 63
   pub refused : (readingIn Fsw (ascii "M749x750") .sign .«prefix_offsets» ≡ zeros 32) × (readingIn Fsw (ascii "M749x750") .sign .«symbol_offsets» ≡ zeros 64)
+
+-- M500x500 in SWU
+abbrev pub plainInSwu : List ℕ
+plainInSwu = utf8 0x1d803 ++ (utf8 0x1d906 ++ utf8 0x1d906)
+
+-- the shortest spelling of the styling of a text
+abbrev pub respelled : Charset → List ℕ → Result (List ℕ)
+respelled set text = onDone (λ p. stylingText (meaning (p .1))) (styledOf set text)
+
+-- stylings: what is refused and where, and how they are spelled again (document 02, Q-1)
+pub record StylingRows : Type 0 where
+  pub all : respelled Fsw (ascii "M500x500S10000490x485-CP05G_lightblue_D_red,0f0_Z1.50-D01_red_Z01,2.00") ≡ done (ascii "-CP05G_lightblue_D_red,0f0_Z1.5-D01_red_Z01,2")
+  pub undashed : styledOf Fsw (ascii "M500x500") ≡ refusal 2 8
+  pub dash : respelled Fsw (ascii "M500x500-") ≡ done (ascii "-")
+  pub dashes : respelled Fsw (ascii "M500x500--") ≡ done (ascii "-")
+  pub extendable : styledOf Fsw (ascii "M500x500-Zx") ≡ refusal 1 10
+  pub zoomFirst : styledOf Fsw (ascii "M500x500--Z01,2D01_red_") ≡ refusal 1 15
+  pub offset : styledOf Fsw (ascii "M500x500--Z04,1.5,480x500") ≡ refusal 1 17
+  pub classes : styledOf Fsw (ascii "M500x500---glowing!") ≡ refusal 1 10
+  pub notHexadecimal : styledOf Fsw (ascii "M500x500-G_f00g_") ≡ refusal 1 14
+  pub named : respelled Fsw (ascii "M500x500-G_fffg_") ≡ done (ascii "-G_fffg_")
+  pub pointLast : styledOf Fsw (ascii "M500x500-Z1.") ≡ refusal 2 12
+  pub zero : styledOf Fsw (ascii "M500x500-Z0") ≡ refusal 17 0
+  pub hundred : styledOf Fsw (ascii "M500x500-Z100") ≡ refusal 17 0
+  pub thirdDecimal : styledOf Fsw (ascii "M500x500-Z1.500") ≡ refusal 17 0
+  pub small : styledOf Fsw (ascii "M500x500-Z0.005") ≡ refusal 17 0
+  pub leadingZero : respelled Fsw (ascii "M500x500-Z099.99") ≡ done (ascii "-Z99.99")
+  pub present : respelled Fsw (ascii "M500x500-P00Z1") ≡ done (ascii "-P00Z1")
+  pub longName : styledOf Fsw (ascii "M500x500-G_abcdefghijklmnopqrstuvwxy_") ≡ refusal 18 0
+  pub zoomBeforeName : styledOf Fsw (ascii "M500x500-G_abcdefghijklmnopqrstuvwxy_Z0") ≡ refusal 17 0
+  pub inNumber : styledOf Fsw (ascii "M749x750-Z0") ≡ refusal 1 5
+  pub extendableInSwu : styledOf Swu (plainInSwu ++ ascii "-Zx") ≡ refusal 1 14
+  pub undashedInSwu : styledOf Swu plainInSwu ≡ refusal 2 12
+  pub oneByteMore : styledOf Swu (plainInSwu ++ ascii "+") ≡ refusal 2 13
+  pub early : styledOf Swu (take 8 plainInSwu ++ ascii "-Zx1") ≡ refusal 1 8
+  pub earlyAndCut : styledOf Swu (take 8 plainInSwu ++ ascii "-Zx") ≡ refusal 2 11
+  pub transcribed : styledTranscription Fsw (ascii "M500x500-Z1.50") ≡ done (plainInSwu ++ ascii "-Z1.50")
+  pub plain : signOf Fsw (ascii "M500x500-") ≡ refusal 1 8

@@ -1,4 +1,4 @@
--- Document 01, "Refusal numbers", by name.
+-- Document 01, "Refusal numbers", and those of document 02, by name.
 use Prim.Native.Nat.{ℕ}
 
 abbrev pub textWrong : ℕ
@@ -48,3 +48,13 @@ codeWrong = 15
 
 abbrev pub entryAbsent : ℕ
 entryAbsent = 16
+
+-- a zoom out of range or with over two decimals, a colour name over 24 letters, more than 64 symbol styles
+abbrev pub zoomWrong : ℕ
+zoomWrong = 17
+
+abbrev pub nameLong : ℕ
+nameLong = 18
+
+abbrev pub stylesMany : ℕ
+stylesMany = 19

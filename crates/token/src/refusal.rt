@@ -34,3 +34,9 @@ pub const TOO_MANY: u8 = 14;
 pub const CODE_WRONG: u8 = 15;
 
 pub const ENTRY_ABSENT: u8 = 16;
+
+pub const ZOOM_WRONG: u8 = 17;
+
+pub const NAME_LONG: u8 = 18;
+
+pub const STYLES_MANY: u8 = 19;

@@ -80,6 +80,24 @@ fn offsets_in(set: Charset, text: &[u8]) {
     put_some(&symbols);
 }
 
+// A sign with its styling: the answer, and the styling written again.
+fn styled_in(set: Charset, text: &[u8]) {
+    let mut record = [0u16; 3472];
+    let r = styling::read_styled(set, text, &mut record);
+    let number = r.number;
+    put(number as u64);
+    put(r.place as u64);
+    if number == 0 {
+        let mut out = [0u8; 3600];
+        put_text(styling::write_styling(&record, &mut out), &out);
+    }
+}
+
+fn styled_transcription(set: Charset, text: &[u8]) {
+    let mut out = [0u8; 1200];
+    put_text(styling::transcribe_styled(set, text, &mut out), &out);
+}
+
 fn query_in(text: &[u8]) {
     let r = query::read(text);
     put(r.number as u64);
@@ -133,7 +151,8 @@ fn centring(text: &[u8]) {
 }
 
 // k: a key's code; c: its character; f and s: an FSW and an SWU sign; o and p: where the symbols of an FSW and of an SWU sign
-// stand; t and b: transcribed from FSW, and back from SWU; q: a query; v: a verdict; m: a sign moved to the middle.
+// stand; t and b: transcribed from FSW, and back from SWU; y and z: an FSW and an SWU sign with its styling; x and d: such a sign
+// transcribed from FSW, and back from SWU; q: a query; v: a verdict; m: a sign moved to the middle.
 fn answer(kind: u8, text: &[u8]) {
     match kind {
         b'k' => key(text),
@@ -144,6 +163,10 @@ fn answer(kind: u8, text: &[u8]) {
         b'p' => offsets_in(Charset::Swu, text),
         b't' => transcription(Charset::Fsw, text),
         b'b' => transcription(Charset::Swu, text),
+        b'y' => styled_in(Charset::Fsw, text),
+        b'z' => styled_in(Charset::Swu, text),
+        b'x' => styled_transcription(Charset::Fsw, text),
+        b'd' => styled_transcription(Charset::Swu, text),
         b'q' => query_in(text),
         b'v' => verdict_on(text),
         b'm' => centring(text),

@@ -5,8 +5,8 @@ use mathlib.Core.List.{List, [], _∷_, _++_, append-assoc, append-nil}
 use native.Mathlib.Nat.{add-zero}
 use native.Mathlib.Numerals.{add-one}
 use native.Mathlib.Omega.{arith}
-use lib.ListN.{length, take, drop, set, length-set, length-append, take-append-drop}
-use lib.Seq.{drop-drop, drop-set-lt, take-suc-set}
+use lib.ListN.{length, getD, take, drop, set, length-set, length-append, take-append-drop}
+use lib.Seq.{drop-drop, drop-set-lt, take-suc, take-suc-set, take-all, length-take-le}
 use Rattle.token.specs.Wrote.{Wrote}
 
 pub wrote-none : (o : List ℕ) (a : ℕ) → a ≤ length o → Wrote o o a a []
@@ -46,3 +46,14 @@ pub wrote-all : {o p : List ℕ} {r : ℕ} {text : List ℕ} → Wrote o p 0 r t
 wrote-all {o} {p} {r} {text} w =
     let n : r ≡ length text = omega arith in
     (n, sym (take-append-drop r p) ∙ rw (w .front, w .rest, n))
+
+-- bytes written one by one
+module _ {o p : List ℕ} {a r : ℕ} (s : List ℕ) (i : ℕ) (w : Wrote o p a r (take i s)) where
+  pub bytes-room : i < length s → a + length s ≤ length o → r < length p
+  bytes-room h l = omega (arith, length-take-le i s (omega arith))
+
+  pub bytes-more : {q : List ℕ} {t : ℕ} → i < length s → Wrote p q r t (getD s i 0 ∷ []) → Wrote o q a t (take (i + 1) s)
+  bytes-more h v = wrote-as (wrote-more w v) (rw add-one (sym (take-suc s i 0 h)))
+
+  pub bytes-all : length s ≤ i → Wrote o p a r s
+  bytes-all h = wrote-as w (take-all i s h)

@@ -20,6 +20,20 @@ pub fn put_byte(out: &mut [u8], at: usize, b: u8) -> usize
     at + 1
 }
 
+// Bytes as they are.
+pub fn put_bytes(out: &mut [u8], at: usize, s: &[u8]) -> usize
+    requires { ⌜ at + length (now s) ≤ length (now out) ⌝ }
+    ensures { λ r. ⌜ Wrote (now (out .entry)) (now (out .exit)) at r (now (s .entry)) ⌝ }
+{
+    let mut next = at;
+    let mut i: usize = 0;
+    while i < s.len() {
+        next = put_byte(out, next, s[i]);
+        i += 1;
+    }
+    next
+}
+
 // The byte of a hexadecimal digit.
 fn digit_byte(d: u16) -> u8
     requires { ⌜ d < 16 ⌝ }

@@ -15,7 +15,7 @@ const LONGEST: usize = 1_033;
 /// How long a pass took, and a sum of what it answered.
 pub type Pass = (Duration, u64);
 
-fn timed(work: impl FnOnce() -> u64) -> Pass {
+pub fn timed(work: impl FnOnce() -> u64) -> Pass {
     let start = Instant::now();
     let sum = work();
     (start.elapsed(), sum)

@@ -5,11 +5,13 @@
 
 mod dictionary;
 mod entries;
+mod styled;
 
 use dictionary::Dictionary;
 use entries::*;
 use reference::Charset;
 use std::time::{Duration, Instant};
+use styled::*;
 
 const LINE_COUNTS: [usize; 3] = [1_000, 10_000, 65_535];
 const VERDICT_QUERY: &str = "QS100uuR2fft36c";
@@ -50,6 +52,7 @@ fn rows(bench: &Bench, set: Charset) {
         || transcribe_library(b, set),
         || transcribe_reference(b, set),
     );
+    styled_rows(bench, set);
     let query = VERDICT_QUERY.as_bytes();
     bench.row(
         &format!("verdict by `{VERDICT_QUERY}`"),
@@ -69,6 +72,21 @@ fn rows(bench: &Bench, set: Charset) {
             || narrow_reference(b, set, query.as_bytes()),
         );
     }
+}
+
+/// The second row has another yardstick than the reference, which its name tells.
+fn styled_rows(bench: &Bench, set: Charset) {
+    let signs = &StyledSigns::new(&bench.dictionary);
+    bench.row(
+        "read_styled",
+        || read_styled_library(signs, set),
+        || read_styled_reference(signs, set),
+    );
+    bench.row(
+        "read_styled, beside the library's read and a walk over the styling",
+        || read_styled_library(signs, set),
+        || read_and_walk(signs, set),
+    );
 }
 
 struct Bench {

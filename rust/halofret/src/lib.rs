@@ -21,9 +21,11 @@
 mod answers;
 pub mod raw;
 mod refusal;
+mod styling;
 
 pub use answers::{Bounds, Boxes, Fetched, Narrowed, Placed, Sign, Verdict};
 pub use refusal::Refusal;
+pub use styling::{Detail, Styling, StylingRecord, SymbolStyle, Zoom, LONGEST_STYLING};
 
 /// The bytes of a size list: width and height for each code from 1 to 62,592.
 pub const SIZE_LIST_LENGTH: usize = 125_184;
@@ -121,6 +123,66 @@ pub fn transcribe(charset: Charset, text: &[u8], out: &mut [u8]) -> Result<usize
             &mut answer,
         )
     };
+    written(&answer)
+}
+
+/// Reads a sign and the styling after it, which begins with a dash.
+///
+/// ```
+/// use halofret::{read_styled, Charset, Zoom};
+///
+/// let (sign, styling) = read_styled(Charset::Fsw, b"M500x500-CG_lightblue_Z1.50")?;
+/// assert_eq!(sign.maximum(), (500, 500));
+/// assert!(styling.colorize);
+/// assert_eq!(styling.background.as_deref(), Some("lightblue"));
+/// assert_eq!(styling.zoom, Some(Zoom { hundredths: 150 }));
+/// # Ok::<(), halofret::Refusal>(())
+/// ```
+pub fn read_styled(charset: Charset, text: &[u8]) -> Result<(Sign, Styling), Refusal> {
+    let mut sign = Sign::default();
+    let mut record = [0; raw::HALOFRET_STYLING];
+    let mut answer = [0; 2];
+    unsafe {
+        raw::halofret_read_styled(
+            charset.is_swu(),
+            text.as_ptr(),
+            text.len(),
+            sign.record_mut(),
+            &mut record,
+            &mut answer,
+        )
+    };
+    Refusal::check(&answer)?;
+    Ok((sign, Styling::of(&record)))
+}
+
+/// Writes a sign in the other character set and after it the bytes of its styling as they are;
+/// answers the length.
+pub fn transcribe_styled(charset: Charset, text: &[u8], out: &mut [u8]) -> Result<usize, Refusal> {
+    let mut answer = [0; 3];
+    unsafe {
+        raw::halofret_transcribe_styled(
+            charset.is_swu(),
+            text.as_ptr(),
+            text.len(),
+            out.as_mut_ptr(),
+            out.len(),
+            &mut answer,
+        )
+    };
+    written(&answer)
+}
+
+/// Writes the shortest text of a styling, its dash first; answers the length, at most
+/// [`LONGEST_STYLING`]. A styling that no text reads as is refused as 1 at 0.
+pub fn write_styling(styling: &Styling, out: &mut [u8]) -> Result<usize, Refusal> {
+    write_styling_record(&styling.record()?, out)
+}
+
+/// The same for a styling as numbers, which may be any.
+pub fn write_styling_record(record: &StylingRecord, out: &mut [u8]) -> Result<usize, Refusal> {
+    let mut answer = [0; 3];
+    unsafe { raw::halofret_write_styling(record, out.as_mut_ptr(), out.len(), &mut answer) };
     written(&answer)
 }
 

@@ -7,6 +7,9 @@
 /// How many numbers a sign has.
 pub const HALOFRET_SIGN: usize = 325;
 
+/// How many numbers a styling has.
+pub const HALOFRET_STYLING: usize = 3_472;
+
 extern "C" {
     /// The code of a symbol key.
     pub fn halofret_key_to_code(key: *const u8, key_len: usize, answer: *mut [u64; 3]);
@@ -34,6 +37,34 @@ extern "C" {
         swu: bool,
         text: *const u8,
         len: usize,
+        out: *mut u8,
+        room: usize,
+        answer: *mut [u64; 3],
+    );
+
+    /// Reads a sign with a styling.
+    pub fn halofret_read_styled(
+        swu: bool,
+        text: *const u8,
+        len: usize,
+        sign: *mut [u16; HALOFRET_SIGN],
+        styling: *mut [u16; HALOFRET_STYLING],
+        answer: *mut [u64; 2],
+    );
+
+    /// Writes a sign with a styling in the other character set.
+    pub fn halofret_transcribe_styled(
+        swu: bool,
+        text: *const u8,
+        len: usize,
+        out: *mut u8,
+        room: usize,
+        answer: *mut [u64; 3],
+    );
+
+    /// Writes a styling.
+    pub fn halofret_write_styling(
+        styling: *const [u16; HALOFRET_STYLING],
         out: *mut u8,
         room: usize,
         answer: *mut [u64; 3],

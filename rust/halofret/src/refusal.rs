@@ -5,7 +5,7 @@ use std::fmt;
 /// Why a call was refused. A refused call changed no byte it was lent.
 #[derive(Clone, Copy, Debug, PartialEq, Eq)]
 pub struct Refusal {
-    /// From 1 to 16.
+    /// From 1 to 19.
     pub number: u8,
     /// An offset, a count or 0, as the number says.
     pub place: usize,
@@ -53,6 +53,12 @@ impl fmt::Display for Refusal {
             14 => write!(f, "The dictionary is over its limits, such as 65,535 lines."),
             15 => write!(f, "The symbol code is over 62,592."),
             16 => write!(f, "Neither dictionary has an entry of that number."),
+            17 => write!(
+                f,
+                "A zoom of the styling is not from 0.01 to 99.99, or has more than two decimals."
+            ),
+            18 => write!(f, "A colour name of the styling has more than 24 letters."),
+            19 => write!(f, "The styling has more than 64 symbol styles."),
             number => write!(f, "Refusal {number} at {place} is unknown."),
         }
     }

@@ -1,5 +1,5 @@
-//! A plain implementation of document 01 and of requests of document 02, to
-//! hold the proved library against.
+//! A plain implementation of document 01 and of requests of document 02,
+//! to hold the proved library against.
 //!
 //! It was written from the papers alone and shares no code with the library. It is
 //! simple first, but allocates nothing for a line, so that its speed is a fair measure.
@@ -7,6 +7,7 @@
 //! - `symbol`: symbol codes, keys and characters
 //! - `text`: the tokens of both character sets, read one after another
 //! - `sign`: reading, writing and transcribing a sign
+//! - `styling`, `styling_record`: the same for a sign with a styling, and a styling as numbers
 //! - `geometry`: boxes, centres, shifting and centring
 //! - `query`: reading a query, and its verdict on a sign
 //! - `dictionary`: opening, narrowing and fetching
@@ -15,6 +16,8 @@ mod dictionary;
 mod geometry;
 mod query;
 mod sign;
+mod styling;
+mod styling_record;
 mod symbol;
 mod text;
 
@@ -22,6 +25,9 @@ pub use dictionary::{fetch, narrow, open, Fetched, Narrowed, MOST_LINES};
 pub use geometry::{boxes, centred, shift, Bounds, Boxes, SIZE_LIST_LENGTH};
 pub use query::{read_query, verdict, Query, Verdict, MOST_ITEMS};
 pub use sign::{read, read_into, transcribe, Placed, Sign, MOST_PREFIX, MOST_SYMBOLS};
+pub use styling::{read_styled, read_styled_into, transcribe_styled};
+pub use styling::{Detail, Styling, SymbolStyle, LONGEST_NAME, MOST_STYLES, MOST_ZOOM};
+pub use styling_record::{write_styling_record, StylingRecord};
 pub use symbol::{char_to_code, code_to_char, code_to_key, key_to_code, LAST_CODE};
 
 /// The two ways to write a sign: ASCII or Unicode.

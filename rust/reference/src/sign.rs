@@ -86,50 +86,67 @@ pub fn read(charset: Charset, text: &[u8]) -> Answer<Sign> {
 /// Reads over an older sign, so that a dictionary is read into one record. What a refusal
 /// leaves there is no sign.
 pub fn read_into(charset: Charset, text: &[u8], sign: &mut Sign) -> Answer<()> {
-    match charset {
-        Charset::Fsw => read_tokens(Bytes::over(text), sign),
-        Charset::Swu => read_tokens(Groups::over(text), sign),
+    let counts = match charset {
+        Charset::Fsw => read_tokens(&mut Bytes::over(text), sign, Tokens::at_end)?,
+        Charset::Swu => read_tokens(&mut Groups::over(text), sign, Tokens::at_end)?,
+    };
+    counts.check(sign)
+}
+
+/// How many symbols a text has, those over the limits too.
+pub(crate) struct Counts {
+    prefix: usize,
+    symbols: usize,
+}
+
+impl Counts {
+    /// The limits come after the whole text, so that a later wrong byte is still the answer.
+    pub fn check(self, sign: &mut Sign) -> Answer<()> {
+        if self.prefix > MOST_PREFIX {
+            return refuse(3, 0);
+        }
+        if self.symbols > MOST_SYMBOLS {
+            return refuse(4, 0);
+        }
+        sign.prefix_count = self.prefix;
+        sign.symbol_count = self.symbols;
+        Ok(())
     }
 }
 
-/// The limits come after the whole text: a symbol too many is counted, not stored,
-/// and a later wrong byte is still the answer. An offset is cut to 16 bits, which hold those
-/// of every sign within the limits.
-fn read_tokens<'a>(mut tokens: impl Tokens<'a>, sign: &mut Sign) -> Answer<()> {
-    let mut prefix_count = 0;
+/// Reads symbols until the sign has ended. A symbol too many is counted, not stored. An offset
+/// is cut to 16 bits, which hold those of every sign within the limits.
+pub(crate) fn read_tokens<'a, T: Tokens<'a>>(
+    tokens: &mut T,
+    sign: &mut Sign,
+    has_ended: impl Fn(&T) -> bool,
+) -> Answer<Counts> {
+    let mut prefix = 0;
     if tokens.prefix_mark() {
-        while prefix_count == 0 || tokens.at_symbol() {
+        while prefix == 0 || tokens.at_symbol() {
             let offset = tokens.offset();
             let code = tokens.prefix_symbol()?;
-            if prefix_count < MOST_PREFIX {
-                sign.prefix[prefix_count] = code;
-                sign.prefix_offsets[prefix_count] = offset as u16;
+            if prefix < MOST_PREFIX {
+                sign.prefix[prefix] = code;
+                sign.prefix_offsets[prefix] = offset as u16;
             }
-            prefix_count += 1;
+            prefix += 1;
         }
     }
     sign.marker = tokens.box_marker()?;
     sign.maximum = tokens.coordinate()?;
-    let mut symbol_count = 0;
-    while !tokens.at_end() {
+    let mut symbols = 0;
+    while !has_ended(tokens) {
         let offset = tokens.offset();
         let code = tokens.box_symbol()?;
         let (x, y) = tokens.coordinate()?;
-        if let Some(place) = sign.symbols.get_mut(symbol_count) {
+        if let Some(place) = sign.symbols.get_mut(symbols) {
             let offset = offset as u16;
             *place = Placed { code, x, y, offset };
         }
-        symbol_count += 1;
+        symbols += 1;
     }
-    if prefix_count > MOST_PREFIX {
-        return refuse(3, 0);
-    }
-    if symbol_count > MOST_SYMBOLS {
-        return refuse(4, 0);
-    }
-    sign.prefix_count = prefix_count;
-    sign.symbol_count = symbol_count;
-    Ok(())
+    Ok(Counts { prefix, symbols })
 }
 
 /// Writes the sign in the other character set and answers the length.
@@ -152,7 +169,7 @@ pub(crate) fn write(charset: Charset, sign: &Sign, out: &mut [u8]) -> Answer<usi
     Ok(needed)
 }
 
-fn written_length(charset: Charset, sign: &Sign) -> usize {
+pub(crate) fn written_length(charset: Charset, sign: &Sign) -> usize {
     let (mark, symbol, coordinate) = match charset {
         Charset::Fsw => (1, 6, 7),
         Charset::Swu => (4, 4, 8),

@@ -19,6 +19,8 @@ pub(crate) trait Tokens<'a> {
     /// The bytes stepped over so far: where the next token begins.
     fn offset(&self) -> usize;
     fn at_end(&self) -> bool;
+    /// Whether the byte here is a dash.
+    fn at_dash(&self) -> bool;
     /// Steps over the mark `A` if it stands here.
     fn prefix_mark(&mut self) -> bool;
     /// A null, writing or location symbol.
@@ -34,13 +36,18 @@ pub(crate) trait Tokens<'a> {
     fn end(&self) -> Answer<()>;
 }
 
-/// A cursor over FSW or over a query.
+/// A cursor over FSW, over a query or over a styling.
 pub(crate) struct Bytes<'a> {
     text: &'a [u8],
     pub at: usize,
 }
 
-impl Bytes<'_> {
+impl<'a> Bytes<'a> {
+    /// A cursor that has stepped over the bytes before `at`.
+    pub fn from(text: &'a [u8], at: usize) -> Bytes<'a> {
+        Bytes { text, at }
+    }
+
     pub fn peek(&self) -> Option<u8> {
         self.text.get(self.at).copied()
     }
@@ -49,9 +56,21 @@ impl Bytes<'_> {
         &self.text[self.at..]
     }
 
+    /// The bytes stepped over since `start`.
+    pub fn since(&self, start: usize) -> &'a [u8] {
+        &self.text[start..self.at]
+    }
+
+    /// Steps over the mark if it stands here.
+    pub fn mark(&mut self, mark: u8) -> bool {
+        let marked = self.peek() == Some(mark);
+        self.at += usize::from(marked);
+        marked
+    }
+
     /// The refusal where only `shared` bytes from here begin something well-formed.
     #[cold]
-    fn refusal(&self, shared: usize) -> Refusal {
+    pub fn refusal(&self, shared: usize) -> Refusal {
         let place = self.at + shared;
         let number = if place == self.text.len() { 2 } else { 1 };
         Refusal { number, place }
@@ -201,10 +220,12 @@ impl<'a> Tokens<'a> for Bytes<'a> {
         self.at == self.text.len()
     }
 
+    fn at_dash(&self) -> bool {
+        self.peek() == Some(b'-')
+    }
+
     fn prefix_mark(&mut self) -> bool {
-        let marked = self.peek() == Some(b'A');
-        self.at += usize::from(marked);
-        marked
+        self.mark(b'A')
     }
 
     fn prefix_symbol(&mut self) -> Answer<u16> {
@@ -312,6 +333,10 @@ impl<'a> Tokens<'a> for Groups<'a> {
 
     fn at_end(&self) -> bool {
         self.at == self.text.len()
+    }
+
+    fn at_dash(&self) -> bool {
+        self.text.get(self.at) == Some(&b'-')
     }
 
     fn prefix_mark(&mut self) -> bool {

@@ -1,10 +1,10 @@
 //! Library, wrapper and reference at once: each call fails where they differ, and
 //! otherwise answers what they agree on.
 
-use crate::interface::{Interface, SignRecord};
+use crate::interface::{Interface, SignRecord, StyledAnswer, StylingNumbers};
 use crate::library::Library;
 use crate::sides::{Reference, Wrapper};
-use halofret::Charset;
+use halofret::{Charset, StylingRecord};
 
 pub struct Both;
 
@@ -86,6 +86,23 @@ impl Interface for Both {
         let room = out.len();
         let call = |side: &dyn Interface, out: &mut [u8]| side.transcribe(set, text, out);
         agreed_writing(out, call, || format!("{} with room {room}", shown(text)))
+    }
+
+    fn read_styled(&self, set: Charset, text: &[u8]) -> StyledAnswer {
+        agreed(|side| side.read_styled(set, text), || shown(text))
+    }
+
+    fn transcribe_styled(&self, set: Charset, text: &[u8], out: &mut [u8]) -> [u64; 3] {
+        let room = out.len();
+        let call = |side: &dyn Interface, out: &mut [u8]| side.transcribe_styled(set, text, out);
+        agreed_writing(out, call, || format!("{} with room {room}", shown(text)))
+    }
+
+    fn write_styling(&self, styling: &StylingRecord, out: &mut [u8]) -> [u64; 3] {
+        let room = out.len();
+        let call = |side: &dyn Interface, out: &mut [u8]| side.write_styling(styling, out);
+        let input = || format!("{:?} with room {room}", StylingNumbers(*styling));
+        agreed_writing(out, call, input)
     }
 
     fn boxes(&self, set: Charset, text: &[u8], sizes: &[u8]) -> ([f32; 2], [u64; 19]) {

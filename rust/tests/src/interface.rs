@@ -1,6 +1,6 @@
 //! The entries of `include/halofret.h`, each answering the numbers that C is given.
 
-use halofret::{raw, Charset};
+use halofret::{raw, Charset, StylingRecord};
 
 pub type SignRecord = [u16; raw::HALOFRET_SIGN];
 
@@ -11,6 +11,25 @@ pub const NO_SIGN: SignRecord = [0; raw::HALOFRET_SIGN];
 pub const OFFSETS: usize = 229;
 const SYMBOL_OFFSETS: usize = OFFSETS + 32;
 
+/// The numbers of a styling. Only those that are not 0 are shown, with their places.
+#[derive(Clone, PartialEq)]
+pub struct StylingNumbers(pub StylingRecord);
+
+/// The record of a refused styling.
+pub const NO_STYLING: StylingNumbers = StylingNumbers([0; raw::HALOFRET_STYLING]);
+
+impl std::fmt::Debug for StylingNumbers {
+    fn fmt(&self, f: &mut std::fmt::Formatter) -> std::fmt::Result {
+        let places = self.0.iter().enumerate();
+        f.debug_map()
+            .entries(places.filter(|(_, &number)| number != 0))
+            .finish()
+    }
+}
+
+/// What reading a sign with a styling answers.
+pub type StyledAnswer = (SignRecord, StylingNumbers, [u64; 2]);
+
 pub trait Interface {
     fn key_to_code(&self, key: &[u8]) -> [u64; 3];
     fn char_to_code(&self, character: &[u8]) -> [u64; 3];
@@ -18,6 +37,9 @@ pub trait Interface {
     fn code_to_char(&self, code: u64, out: &mut [u8]) -> [u64; 3];
     fn read(&self, set: Charset, text: &[u8]) -> (SignRecord, [u64; 2]);
     fn transcribe(&self, set: Charset, text: &[u8], out: &mut [u8]) -> [u64; 3];
+    fn read_styled(&self, set: Charset, text: &[u8]) -> StyledAnswer;
+    fn transcribe_styled(&self, set: Charset, text: &[u8], out: &mut [u8]) -> [u64; 3];
+    fn write_styling(&self, styling: &StylingRecord, out: &mut [u8]) -> [u64; 3];
     fn boxes(&self, set: Charset, text: &[u8], sizes: &[u8]) -> ([f32; 2], [u64; 19]);
     fn shift(&self, set: Charset, text: &[u8], by: (i32, i32), out: &mut [u8]) -> [u64; 3];
     fn centred(&self, set: Charset, text: &[u8], sizes: &[u8], out: &mut [u8]) -> [u64; 3];

@@ -5,6 +5,7 @@
 //! - `sides`: the reference and the safe wrapper in the same layout
 //! - `both`: all of them at once; it fails where they differ
 //! - `generate`, `damage`, `random`: seeded signs, queries and dictionaries, and their damage
+//! - `stylings`: seeded stylings, and theirs
 
 pub mod both;
 pub mod damage;
@@ -14,6 +15,7 @@ mod lent;
 pub mod library;
 pub mod random;
 mod sides;
+pub mod stylings;
 
 pub use both::Both;
 pub use interface::Interface;

@@ -3,15 +3,15 @@
 //! Every buffer that is lent, the answers too, is the middle of a larger one. Texts must
 //! come back unchanged, the edges as well, and on refusal all that was lent to be written.
 
-use crate::interface::{Interface, SignRecord};
+use crate::interface::{Interface, SignRecord, StyledAnswer, StylingNumbers};
 use crate::lent::Lent;
-use halofret::{raw, Charset};
+use halofret::{raw, Charset, StylingRecord};
 
 pub struct Library;
 
-/// Bytes around a lent text: some that would go on a sign or a query, should a call read
-/// beyond the end.
-const EDGES: [u8; 6] = [0xa5, b'5', b'S', b'0', 10, 0x80];
+/// Bytes around a lent text: some that would go on a sign, a query or a styling, should a call
+/// read beyond the end.
+const EDGES: [u8; 8] = [0xa5, b'5', b'S', b'0', b'-', b'_', 10, 0x80];
 
 /// A text that is lent to be read.
 struct Text<'a> {
@@ -120,6 +120,41 @@ impl Interface for Library {
         writing(out, 0xa5, |out, a| unsafe {
             raw::halofret_transcribe(is_swu(set), text.start(), text.len(), out, room, a)
         })
+    }
+
+    fn read_styled(&self, set: Charset, text: &[u8]) -> StyledAnswer {
+        let mut text = Text::new(text);
+        let mut sign = [0xdead; raw::HALOFRET_SIGN];
+        let mut styling = [0xdead; raw::HALOFRET_STYLING];
+        // Each of the two lent records is guarded and, on refusal, held to be as it was.
+        let numbers = writing(&mut styling, 0x5555, |styling, a| {
+            let inner = writing(&mut sign, 0x5555, |sign, a| unsafe {
+                let (sign, styling) = (sign.cast(), styling.cast());
+                raw::halofret_read_styled(is_swu(set), text.start(), text.len(), sign, styling, a)
+            });
+            // SAFETY: `a` is the answer that `writing` lends.
+            unsafe { *a = inner };
+        });
+        let styling = StylingNumbers(if_done(styling, &numbers));
+        (if_done(sign, &numbers), styling, numbers)
+    }
+
+    fn transcribe_styled(&self, set: Charset, text: &[u8], out: &mut [u8]) -> [u64; 3] {
+        let mut text = Text::new(text);
+        let room = out.len();
+        writing(out, 0xa5, |out, a| unsafe {
+            raw::halofret_transcribe_styled(is_swu(set), text.start(), text.len(), out, room, a)
+        })
+    }
+
+    fn write_styling(&self, styling: &StylingRecord, out: &mut [u8]) -> [u64; 3] {
+        let mut lent = Lent::new(styling, 0x5555);
+        let room = out.len();
+        let numbers = writing(out, 0xa5, |out, a| unsafe {
+            raw::halofret_write_styling(lent.middle().as_ptr().cast(), out, room, a)
+        });
+        lent.expect_unchanged(styling);
+        numbers
     }
 
     fn boxes(&self, set: Charset, text: &[u8], sizes: &[u8]) -> ([f32; 2], [u64; 19]) {

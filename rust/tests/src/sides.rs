@@ -4,7 +4,8 @@
 //! macro lays out both.
 
 use crate::interface::{numbers, sign_record, Interface, SignRecord, NO_SIGN};
-use halofret::Charset;
+use crate::interface::{StyledAnswer, StylingNumbers, NO_STYLING};
+use halofret::{Charset, StylingRecord};
 
 pub struct Reference;
 pub struct Wrapper;
@@ -18,6 +19,14 @@ fn reference_set(set: Charset) -> reference::Charset {
 
 fn wrapper_set(set: Charset) -> Charset {
     set
+}
+
+fn reference_styling(styling: &reference::Styling) -> StylingNumbers {
+    StylingNumbers(styling.record())
+}
+
+fn wrapper_styling(styling: &halofret::Styling) -> StylingNumbers {
+    StylingNumbers(styling.record().expect("what was read has a record"))
 }
 
 /// The numbers of an answer, by a function from its value to the numbers after the place.
@@ -39,8 +48,18 @@ macro_rules! bounds {
     };
 }
 
+macro_rules! sign_numbers {
+    ($sign:expr) => {{
+        let sign = $sign;
+        let prefix = [sign.prefix(), sign.prefix_offsets()];
+        let symbols = sign.symbols().into_iter();
+        let symbols = symbols.map(|s| [s.code, s.x, s.y, s.offset]);
+        sign_record(sign.marker(), sign.maximum(), prefix, symbols)
+    }};
+}
+
 macro_rules! side {
-    ($side:ident, $of:ident, $set_of:ident) => {
+    ($side:ident, $of:ident, $set_of:ident, $styling_of:ident) => {
         impl Interface for $side {
             fn key_to_code(&self, key: &[u8]) -> [u64; 3] {
                 lay_out!($of::key_to_code(key), one)
@@ -60,13 +79,25 @@ macro_rules! side {
 
             fn read(&self, set: Charset, text: &[u8]) -> (SignRecord, [u64; 2]) {
                 let answer = $of::read($set_of(set), text);
-                let record = answer.as_ref().map_or(NO_SIGN, |sign| {
-                    let prefix = [sign.prefix(), sign.prefix_offsets()];
-                    let symbols = sign.symbols().into_iter();
-                    let symbols = symbols.map(|s| [s.code, s.x, s.y, s.offset]);
-                    sign_record(sign.marker(), sign.maximum(), prefix, symbols)
-                });
+                let record = answer.as_ref().map_or(NO_SIGN, |sign| sign_numbers!(sign));
                 (record, lay_out!(answer, |_| vec![]))
+            }
+
+            fn read_styled(&self, set: Charset, text: &[u8]) -> StyledAnswer {
+                let answer = $of::read_styled($set_of(set), text);
+                let (sign, styling) = match &answer {
+                    Ok((sign, styling)) => (sign_numbers!(sign), $styling_of(styling)),
+                    Err(_) => (NO_SIGN, NO_STYLING),
+                };
+                (sign, styling, lay_out!(answer, |_| vec![]))
+            }
+
+            fn transcribe_styled(&self, set: Charset, text: &[u8], out: &mut [u8]) -> [u64; 3] {
+                lay_out!($of::transcribe_styled($set_of(set), text, out), one)
+            }
+
+            fn write_styling(&self, styling: &StylingRecord, out: &mut [u8]) -> [u64; 3] {
+                lay_out!($of::write_styling_record(styling, out), one)
             }
 
             fn transcribe(&self, set: Charset, text: &[u8], out: &mut [u8]) -> [u64; 3] {
@@ -144,5 +175,5 @@ macro_rules! side {
     };
 }
 
-side!(Reference, reference, reference_set);
-side!(Wrapper, halofret, wrapper_set);
+side!(Reference, reference, reference_set, reference_styling);
+side!(Wrapper, halofret, wrapper_set, wrapper_styling);

@@ -1,5 +1,5 @@
 //! What the wrapper says of each refusal, and that each reaches the caller with the number and
-//! the place of document 01, "Refusal numbers".
+//! the place of document 01, "Refusal numbers", and of document 02, Q-1.
 
 use differential::generate::in_swu;
 use halofret::{raw, Charset, Refusal};
@@ -8,7 +8,7 @@ use std::ptr;
 static SIZES: [u8; 125_184] = [9; 125_184];
 
 /// What each sentence says, by number; the place is 7.
-const SAID: [&[&str]; 16] = [
+const SAID: [&[&str]; 19] = [
     &["text is wrong", "byte offset 7"],
     &["stops too early", "7 bytes"],
     &["prefix", "more than 32"],
@@ -25,6 +25,9 @@ const SAID: [&[&str]; 16] = [
     &["over its limits", "65,535 lines"],
     &["code is over 62,592"],
     &["Neither dictionary", "entry"],
+    &["zoom", "0.01 to 99.99", "more than two decimals"],
+    &["colour name", "more than 24 letters"],
+    &["more than 64 symbol styles"],
 ];
 
 #[test]
@@ -97,6 +100,47 @@ fn each_refusal_of_a_dictionary_reaches_the_caller() {
 }
 
 #[test]
+fn each_refusal_of_a_styling_reaches_the_caller() {
+    let set = Charset::Fsw;
+    let styled = |styling: &str| {
+        let text = format!("M500x500{styling}");
+        let mut out = [b'?'; 2_000];
+        let transcribed = refused(halofret::transcribe_styled(set, text.as_bytes(), &mut out));
+        assert!(transcribed == (0, 0) || out == [b'?'; 2_000]);
+        let read = refused(halofret::read_styled(set, text.as_bytes()));
+        assert_eq!(read, transcribed);
+        read
+    };
+    assert_eq!(styled("-Zx"), (1, 10));
+    assert_eq!(styled("-Z1."), (2, 12));
+    assert_eq!((styled("-Z99.99"), styled("-Z100")), ((0, 0), (17, 0)));
+    let name = |length| format!("-G_{}_", "n".repeat(length));
+    assert_eq!((styled(&name(24)), styled(&name(25))), ((0, 0), (18, 0)));
+    let styles = |count| format!("--{}", "Z01,2".repeat(count));
+    assert_eq!(
+        (styled(&styles(64)), styled(&styles(65))),
+        ((0, 0), (19, 0))
+    );
+    let mut out = [0; 13];
+    let text = b"M500x500-C";
+    assert_eq!(
+        refused(halofret::transcribe_styled(set, text, &mut out)),
+        (6, 14)
+    );
+    let mut record = [0; raw::HALOFRET_STYLING];
+    assert_eq!(halofret::write_styling_record(&record, &mut out), Ok(1));
+    assert_eq!(
+        refused(halofret::write_styling_record(&record, &mut [])),
+        (6, 1)
+    );
+    record[2] = 10_000;
+    assert_eq!(
+        refused(halofret::write_styling_record(&record, &mut [])),
+        (1, 0)
+    );
+}
+
+#[test]
 fn refusals_of_swu_have_their_places_in_bytes() {
     let mut text = in_swu(b"M500x500").unwrap();
     assert_eq!(refused(halofret::read(Charset::Swu, &text)), (0, 0));
@@ -110,6 +154,11 @@ fn empty_slices() {
     for set in differential::BOTH_SETS {
         assert_eq!(refused(halofret::read(set, &[])), (2, 0));
         assert_eq!(refused(halofret::transcribe(set, &[], &mut [])), (2, 0));
+        assert_eq!(refused(halofret::read_styled(set, &[])), (2, 0));
+        assert_eq!(
+            refused(halofret::transcribe_styled(set, &[], &mut [])),
+            (2, 0)
+        );
         assert_eq!(refused(halofret::verdict(set, b"Q", &[])), (2, 0));
         assert_eq!(halofret::open(set, &[], &mut []), Ok(0));
         let narrowed = halofret::narrow(set, &[], &mut [], 0, b"Q").unwrap();
@@ -156,5 +205,22 @@ fn null_pointers() {
         assert_eq!(four, [0, 0, 0, 0]);
         raw::halofret_fetch(none, 0, b"M\n".as_ptr(), 2, 1, &mut four);
         assert_eq!(four, [0, 1, 0, 1]);
+    }
+}
+
+#[test]
+fn null_pointers_of_stylings() {
+    let (none, no_bytes) = (ptr::null(), ptr::null_mut());
+    let (mut three, mut two) = ([9; 3], [9; 2]);
+    let (mut sign, mut styling) = ([9; raw::HALOFRET_SIGN], [0; raw::HALOFRET_STYLING]);
+    // SAFETY: as above.
+    unsafe {
+        raw::halofret_read_styled(true, none, 0, &mut sign, &mut styling, &mut two);
+        assert_eq!((two, sign), ([2, 0], [9; raw::HALOFRET_SIGN]));
+        assert_eq!(styling, [0; raw::HALOFRET_STYLING]);
+        raw::halofret_transcribe_styled(false, none, 0, no_bytes, 0, &mut three);
+        assert_eq!(three, [2, 0, 0]);
+        raw::halofret_write_styling(&styling, no_bytes, 0, &mut three);
+        assert_eq!(three, [6, 1, 0]);
     }
 }

@@ -2,10 +2,9 @@ use Prim.Native.Nat.{_-_, _≤_}
 use lib.ListN.{length, take}
 use native.Mathlib.Omega.{arith}
 use Rattle.token.specs.Wrote.{Wrote}
-use Rattle.writer.proofs.Writes.{wrote-none}
-use Rattle.keylines.proofs.TextWrites.{bytes-room, bytes-more, bytes-all}
-use Rattle.keylines.proofs.line.put_bytes.Statement.{statement}
-use Rattle.keylines.proofs.line.put_bytes.Tie as tie
+use Rattle.writer.proofs.Writes.{wrote-none, bytes-room, bytes-more, bytes-all}
+use Rattle.writer.proofs.tokens.put_bytes.Statement.{statement}
+use Rattle.writer.proofs.tokens.put_bytes.Tie as tie
 
 abbrev Inv-loop : tie.InvT-loop
 Inv-loop out₀ at s next₀ i₀ out next i = (i ≤ length s) × Wrote out₀ out at next (take i s)

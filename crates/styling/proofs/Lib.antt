@@ -1,0 +1,5 @@
+pub mod Splits
+pub mod Laws
+pub mod Judging
+pub mod Texts
+pub mod Entries

@@ -1,0 +1,9 @@
+pub mod Word
+pub mod Styling
+pub mod Meaning
+pub mod StylingLaws
+pub mod Record
+pub mod Filling
+pub mod RecordLaws
+pub mod Styled
+pub mod StyledLaws

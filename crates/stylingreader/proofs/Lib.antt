@@ -1,0 +1,9 @@
+pub mod Marks
+pub mod Fixed
+pub mod Chains
+pub mod Colours
+pub mod Details
+pub mod Zooms
+pub mod Rows
+pub mod Symbols
+pub mod Strings

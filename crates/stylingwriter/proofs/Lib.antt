@@ -1,0 +1,4 @@
+pub mod FigureWrites
+pub mod ColourWrites
+pub mod StyleWrites
+pub mod PieceWrites

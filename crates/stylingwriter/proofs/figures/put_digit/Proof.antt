@@ -1,0 +1,23 @@
+use borrow.Author.Needs.{needs}
+use Rattle.stylingwriter.proofs.FigureWrites.{digit-put}
+use Rattle.stylingwriter.proofs.figures.put_digit.Statement.{statement}
+use Rattle.stylingwriter.proofs.figures.put_digit.Tie as tie
+
+add-put-byte : tie.Need-add-put-byte
+add-put-byte c = search needs
+
+cast-put-byte : tie.Need-cast-put-byte
+cast-put-byte c = search needs
+
+put-byte-requires : tie.Need-put-byte-requires
+put-byte-requires c κs = search needs
+
+same-length : tie.Need-same-length
+same-length c = search needs
+
+returns : tie.Need-returns
+returns c = digit-put _ (c .before .before .before .before .before .pre .1) (c .before .before .put-byte .ensures)
+
+pub put-digit-spec : {M : Type 1} → statement M
+put-digit-spec =
+    tie.close (tie.spec add-put-byte cast-put-byte put-byte-requires same-length returns)

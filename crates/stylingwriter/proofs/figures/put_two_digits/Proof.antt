@@ -1,0 +1,20 @@
+use borrow.Author.Needs.{needs}
+use Rattle.writer.proofs.Writes.{wrote-more}
+use Rattle.stylingwriter.proofs.figures.put_two_digits.Statement.{statement}
+use Rattle.stylingwriter.proofs.figures.put_two_digits.Tie as tie
+
+put-digit-requires : tie.Need-put-digit-requires
+put-digit-requires c κs = search needs
+
+put-digit-requires-2 : tie.Need-put-digit-requires-2
+put-digit-requires-2 c κs = search needs
+
+same-length : tie.Need-same-length
+same-length c = search needs
+
+returns : tie.Need-returns
+returns c = wrote-more (c .before .before .before .before .before .before .put-digit .ensures) (c .before .before .put-digit2 .ensures)
+
+pub put-two-digits-spec : {M : Type 1} → statement M
+put-two-digits-spec =
+    tie.close (tie.spec put-digit-requires put-digit-requires-2 same-length returns)

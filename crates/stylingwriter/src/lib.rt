@@ -1,0 +1,4 @@
+// Writing the styling string of a record.
+
+mod figures;
+pub mod writing;
