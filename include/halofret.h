@@ -133,7 +133,9 @@ void halofret_transcribe(bool swu, const uint8_t *text, size_t len, uint8_t *out
  * and in this order: C; P and two digits; G_colour_; D_colour_ or D_colour,colour_; Z and a zoom.
  * Then a second dash may come, with any number of D01_colour_ or D01_colour,colour_ and after these
  * any number of Z01,zoom, where 01 stands for any two digits. A colour is letters, or 3 or 6 hex
- * digits; a zoom is digits, or digits, a point and digits. In SWU too a styling is ASCII.
+ * digits; a zoom is digits, or digits, a point and digits. In SWU too a styling is ASCII. No other
+ * function but halofret_transcribe_styled takes a styling after a sign: the dash is 1 there, and 13
+ * in a line of a dictionary.
  * Writes to sign what halofret_read writes, and to styling:
  *   [0] 1 for C; [1] 1 + padding; [2] zoom in hundredths; [3] how many colours D has; [4] how many
  *       symbol styles there are; each 0 for none

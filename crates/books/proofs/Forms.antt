@@ -9,12 +9,11 @@ use lib.Seq.{take-append-seam}
 use Rattle.format.specs.Format.{keep}
 use Rattle.grammar.specs.Sign.{Meaning}
 use Rattle.token.specs.Result.{Result, refusal, done}
-use Rattle.token.proofs.Checks.{Counted}
+use Rattle.token.proofs.Checks.{Counted, onDone-counted}
 use Rattle.narrowing.specs.Narrowing.{listed, keptBy, narrowedBy}
 use Rattle.narrowing.specs.Form.{plain, FormLaws}
 use Rattle.narrowing.proofs.Keeping.{keep-all}
 use Rattle.narrowing.proofs.Rising.{listed-is, none-bad}
-use Rattle.narrowing.proofs.Runs.{onDone-counted}
 use Rattle.books.specs.Book.{Book, countIn, readableIn}
 use Rattle.books.specs.Forms.{asked, GoodBy, formBy}
 

@@ -1,5 +1,6 @@
 pub mod Coding
 pub mod Units
+pub mod FixedByte
 pub mod Keys
 pub mod Sets
 pub mod Numbers

@@ -13,15 +13,10 @@ use Rattle.format.proofs.Exact.{Bad}
 use Rattle.format.proofs.Delimited.{value-wrong}
 use Rattle.format.proofs.Numbered.{unbegun, Calls, Like, same, moved, Numbered}
 use Rattle.format.proofs.NumberPlaces.{Before, before-led}
+use Rattle.format.proofs.Lists.{cons-head, cons-tail}
 use Rattle.charset.specs.Bytes.{digitByte}
 use Rattle.charset.specs.Tokens.{fswNumber}
 use Rattle.charset.proofs.Keys.{number-strict}
-
-cons-head : {a b : ℕ} {x y : List ℕ} → a ∷ x ≡ b ∷ y → a ≡ b
-cons-head e = cc
-
-cons-tail : {a b : ℕ} {x y : List ℕ} → a ∷ x ≡ b ∷ y → x ≡ y
-cons-tail e = cc
 
 decimal : (d b : ℕ) → d < 10 → digitByte d ≡ b → Range 48 57 b
 decimal d b h e = let z : digitByte d ≡ 48 + d = rw (lt-ltb d 10 h) in (omega (arith, e, z), omega (arith, e, z))

@@ -10,7 +10,8 @@ use Rattle.format.proofs.Sequence.{sequence-other, sequence-lawful}
 use Rattle.format.proofs.Parts.{Inverse, mapped-other, mapped-lawful}
 use Rattle.format.proofs.Exact.{Exact}
 use Rattle.format.proofs.ExactParts.{sequence-exact, mapped-exact}
-use Rattle.format.proofs.Delimited.{Firm, Delimited, sequence-delimited, mapped-delimited, Strict, unit-firm, mapped-wrong}
+use Rattle.format.proofs.Delimited.{Firm, Delimited, solid, sequence-firm, sequence-delimited, mapped-delimited, Strict, unit-firm, mapped-wrong}
+use Rattle.format.proofs.Open.{Open}
 use Rattle.format.proofs.Numerals.{numeral-strict}
 use Rattle.charset.specs.Bytes.{digitOf, digitByte, markerOf, markerByte, byteOf, scalarOf, utf8, byte, digit, digits, letter, after, character}
 use Rattle.charset.proofs.Coding.{byte-exact, digit-exact, letter-exact, character-exact}
@@ -56,6 +57,14 @@ module _ {A : Type 0} (b : ℕ) (f : Format A) where
   pub after-lawful : Lawful 1 f → Lawful 1 (after b f)
   after-lawful l =
       mapped-lawful 1 (sequence (byte b) λ a. f) (λ p. p .1) (λ v. (b, v)) (f .Valid) (sequence-lawful 1 (byte b) (λ a. f) (byte-delimited b .lawful) λ a ok. l) after-inverse
+
+  pub after-firm : Firm f → Firm (after b f)
+  after-firm firm text rest e =
+      let d = byte-delimited b in
+      sequence-firm 1 (byte b) (λ a. f) (d .lawful) (solid 1 (byte b) d) (d .firm) (λ a ok. firm) text rest (mapped-wrong (λ p. p .1) rest (sequence (byte b) (λ a. f) .read text) e)
+
+  pub after-open : Lawful 1 f → Firm f → Open 1 (after b f)
+  after-open l firm = record { lawful = after-lawful l; solid = λ v ok. omega arith; empty = refl; firm = after-firm firm }
 
   pub after-exact : Exact 1 f → Exact 1 (after b f)
   after-exact l =

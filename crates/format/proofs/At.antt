@@ -169,9 +169,24 @@ module _ {A B : Type 0} (f : Format A) (to : A → B) (from : B → A) (P : B �
   unfolding locate
   mapped-at = mapped-go (f .read (drop at s))
 
-module _ {A B : Type 0} (w : ℕ) (f : Format A) (g : Format B) (d : Delimited w f) (s : List ℕ) (at : ℕ) where
+module _ {A B : Type 0} (f : Format A) (g : Format B) (s : List ℕ) (at : ℕ) where
   abbrev left : Located A → Located (A ⊎ B)
   left = onFound inl
+
+  first-go : (r : Answer A) (q : Answer B) → (r ≡ other → ⊥) → located (length s) at (orElse r q) ≡ left (located (length s) at r)
+  first-go (value a rest) q n = refl
+  first-go other q n = absurd (n refl)
+  first-go (wrong rest) q n = refl
+  first-go short q n = refl
+
+  -- where the first of two has begun, it is read
+  pub either-begun : (f .read (drop at s) ≡ other → ⊥) → locate (either f g) s at ≡ left (locate f s at)
+  unfolding locate
+  either-begun n = first-go (f .read (drop at s)) (g .read (drop at s)) n
+
+  pub either-first : (locate f s at ≡ wrongAt at → ⊥) → locate (either f g) s at ≡ left (locate f s at)
+  unfolding locate
+  either-first n = either-begun λ e. n (ap (located (length s) at) e)
 
   second-go : (r : Answer B) → located {A = A ⊎ B} (length s) at (orElse other r) ≡ onFound inr (located (length s) at r)
   second-go (value b rest) = refl
@@ -179,21 +194,14 @@ module _ {A B : Type 0} (w : ℕ) (f : Format A) (g : Format B) (d : Delimited w
   second-go (wrong rest) = refl
   second-go short = refl
 
-  -- where the first of two is wrong at once, the second is read
-  pub either-second : locate f s at ≡ wrongAt at → locate (either f g) s at ≡ onFound inr (locate g s at)
+  -- where it has not, the second is
+  pub either-passed : f .read (drop at s) ≡ other → locate (either f g) s at ≡ onFound inr (locate g s at)
   unfolding locate
-  either-second e = go (wronged w f d s at at e)
+  either-passed e = ap (λ r. located {A = A ⊎ B} (length s) at (orElse r (g .read (drop at s)))) e ∙ second-go (g .read (drop at s))
+
+  pub either-second : Firm f → locate f s at ≡ wrongAt at → locate (either f g) s at ≡ onFound inr (locate g s at)
+  either-second firm e = go (firm-strays f firm s at at e)
     where
-      go : Strays f s at at → located {A = A ⊎ B} (length s) at (orElse (f .read (drop at s)) (g .read (drop at s))) ≡ onFound inr (located (length s) at (g .read (drop at s)))
-      go (here z o) = ap (λ r. located {A = A ⊎ B} (length s) at (orElse r (g .read (drop at s)))) o ∙ second-go (g .read (drop at s))
+      go : Strays f s at at → locate (either f g) s at ≡ onFound inr (locate g s at)
+      go (here z o) = either-passed o
       go (later rest z k o) = absurd (omega arith)
-
-  first-go : (r : Answer A) → (located (length s) at r ≡ wrongAt at → ⊥) → located (length s) at (orElse r (g .read (drop at s))) ≡ left (located (length s) at r)
-  first-go (value a rest) n = refl
-  first-go other n = absurd (n refl)
-  first-go (wrong rest) n = refl
-  first-go short n = refl
-
-  pub either-first : (locate f s at ≡ wrongAt at → ⊥) → locate (either f g) s at ≡ left (locate f s at)
-  unfolding locate
-  either-first n = first-go (f .read (drop at s)) n

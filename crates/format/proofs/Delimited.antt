@@ -25,7 +25,7 @@ pub record Delimited (w : ℕ) {A : Type 0} (f : Format A) : Type 0 where
   pub empty : f .read [] ≡ short
   pub firm : Firm f
 
-short-value : {A : Type 0} {X : Type 0} {v : A} {s : List ℕ} → short ≡ value v s → X
+pub short-value : {A : Type 0} {X : Type 0} {v : A} {s : List ℕ} → short ≡ value v s → X
 short-value e = absurd (let z : _≡_ {A = ℕ} 0 1 = cc in omega arith)
 
 pub value-wrong : {A : Type 0} {X : Type 0} {v : A} {r s : List ℕ} → value v s ≡ wrong r → X
@@ -54,23 +54,25 @@ pub nonempty : {A : Type 0} (w : ℕ) (f : Format A) → Delimited w f → (text
 nonempty w f t [] e = absurd (let x = sym (t .empty) ∙ e in let z : _≡_ {A = ℕ} 0 1 = cc in omega arith)
 nonempty w f t (b ∷ text) e = omega arith
 
-second-firm : {B C : Type 0} (g : Format B) (c : B → C) → Firm g → (text rest : List ℕ) (r : Answer B) → g .read text ≡ r → second c text r ≡ wrong rest → length rest ≤ length text
-second-firm g c firm text rest (value b left) q e = value-wrong e
-second-firm g c firm text rest other q e = let z : text ≡ rest = same-rest e in omega (arith, ap length z)
-second-firm g c firm text rest (wrong left) q e = let z : left ≡ rest = same-rest e in omega (arith, ap length z, firm text left q)
-second-firm g c firm text rest short q e = short-wrong e
+pub second-firm : {B C : Type 0} (c : B → C) (text rest : List ℕ) (r : Answer B) → ((left : List ℕ) → r ≡ wrong left → length left < length text)
+    → second c text r ≡ wrong rest → length rest ≤ length text
+second-firm c text rest (value b left) firm e = value-wrong e
+second-firm c text rest other firm e = let z : text ≡ rest = same-rest e in omega (arith, ap length z)
+second-firm c text rest (wrong left) firm e = let z : left ≡ rest = same-rest e in omega (arith, ap length z, firm left refl)
+second-firm c text rest short firm e = short-wrong e
 
-module _ {A B : Type 0} (w : ℕ) (f : Format A) (g : A → Format B) (t : Delimited w f) (firm : (a : A) → f .Valid a → Firm (g a)) where
+module _ {A B : Type 0} (w : ℕ) (f : Format A) (g : A → Format B) (l : Lawful w f) (some-unit : (a : A) → f .Valid a → 1 ≤ length (f .write a))
+    (firm : Firm f) (next : (a : A) → f .Valid a → Firm (g a)) where
   firm-go : (text rest : List ℕ) (r : Answer A) → f .read text ≡ r → Says f text r
       → _≡_ {A = Answer (A × B)} (first r λ a rest. second (λ b. (a, b)) rest (g a .read rest)) (wrong rest) → length rest < length text
   firm-go text rest (value a left) q s e =
-      omega (arith, second-firm (g a) (λ b. (a, b)) (firm a (s .1)) left rest (g a .read left) refl e, ap length (s .0), length-append (f .write a) left, solid w f t a (s .1))
+      omega (arith, second-firm (λ b. (a, b)) left rest (g a .read left) (next a (s .1) left) e, ap length (s .0), length-append (f .write a) left, some-unit a (s .1))
   firm-go text rest other q s e = other-wrong e
-  firm-go text rest (wrong left) q s e = let z : left ≡ rest = same-rest e in omega (arith, ap length z, t .firm text left q)
+  firm-go text rest (wrong left) q s e = let z : left ≡ rest = same-rest e in omega (arith, ap length z, firm text left q)
   firm-go text rest short q s e = short-wrong e
 
   pub sequence-firm : Firm (sequence f g)
-  sequence-firm text rest e = firm-go text rest (f .read text) refl (t .lawful .says text) e
+  sequence-firm text rest e = firm-go text rest (f .read text) refl (l .says text) e
 
 maybe-wrong : {A : Type 0} (text rest : List ℕ) (r : Answer A) → maybe none text r (λ a left. value (some a) left) ≡ wrong rest → r ≡ wrong rest
 maybe-wrong text rest (value a left) e = value-wrong e
@@ -87,7 +89,7 @@ sequence-delimited w f g t s = record {
   lawful = sequence-lawful w f g (t .lawful) (λ a ok. s a ok .lawful);
   free = λ v rest ok. (s (v .0) (ok .0) .free (v .1) rest (ok .1), t .free (v .0) (g (v .0) .write (v .1) ++ rest) (ok .0));
   empty = ap (λ r. first r λ a rest. second (λ b. (a, b)) rest (g a .read rest)) (t .empty);
-  firm = sequence-firm w f g t λ a ok. s a ok .firm;
+  firm = sequence-firm w f g (t .lawful) (solid w f t) (t .firm) λ a ok. s a ok .firm;
 }
 
 pub mapped-wrong : {A B : Type 0} (to : A → B) (rest : List ℕ) (r : Answer A) → first r (λ a left. value (to a) left) ≡ wrong rest → r ≡ wrong rest

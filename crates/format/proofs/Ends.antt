@@ -5,17 +5,19 @@ use mathlib.Core.Path.{_≡_, refl, sym, ap, _∙_}
 use mathlib.Core.Bool.{Bool, true, false}
 use mathlib.Core.Option.{Option, none, some}
 use lib.Dec.{ltb, eqb}
-use lib.ListN.{length, drop, length-drop, length-append}
+use lib.ListN.{length, drop, length-drop, length-append, drop-of-length-le}
 use lib.Seq.{drop-cons}
 use native.Mathlib.Omega.{arith}
 use borrow.Author.Tests.{eq-eqb, ne-eqb, lt-ltb, le-ltb, ltb-true, ltb-false}
-use Rattle.format.specs.Format.{Answer, value, other, wrong, short, Format, choose, first, second, sequence, optional, maybe, endRead, many}
+use Rattle.format.specs.Format.{Answer, value, other, wrong, short, Format, choose, first, second, sequence, optional, maybe, endRead, many, Absent}
 use Rattle.format.specs.Places.{Outcome, fine, refused, endsShort, outcome, reading}
 use Rattle.format.specs.Located.{Located, found, wrongAt, shortHere, located, locate, andThen, onFound, ended}
 use Rattle.format.proofs.Lawful.{Lawful, Says}
+use Rattle.format.proofs.Begun.{sequence-begun, absent-other, absent-reads}
 use Rattle.format.proofs.Delimited.{Delimited, nonempty}
 use Rattle.format.proofs.At.{sequence-at, Strays, here, later, wronged}
-use Rattle.format.proofs.Loop.{Open, delimited-open, many-on, many-done, many-bad, many-cut, many-end}
+use Rattle.format.proofs.Open.{Open, delimited-open}
+use Rattle.format.proofs.Loop.{many-on, many-done, many-bad, many-cut, many-end}
 
 unfoldable pub onFine : {A B : Type 0} → (A → B) → Outcome A → Outcome B
 onFine to (fine a) = fine (to a)
@@ -78,9 +80,19 @@ module _ {A : Type 0} (f : Format A) (s : List ℕ) (at : ℕ) where
   unfolding locate
   optional-there a next e = there-go a next (f .read (drop at s)) e
 
-  pub optional-none : at ≤ length s → f .read (drop at s) ≡ other → locate (optional f) s at ≡ found none at
+  pub optional-absent : at ≤ length s → Absent (drop at s) (f .read (drop at s)) → locate (optional f) s at ≡ found none at
   unfolding locate
-  optional-none h e = ap (λ r. located (length s) at (opt r)) e ∙ ap (found none) (omega (arith, length-drop at s))
+  optional-absent h p =
+      ap (located (length s) at) (absent-reads none (drop at s) (f .read (drop at s)) (λ a rest. value (some a) rest) p) ∙ ap (found none) (omega (arith, length-drop at s))
+
+  pub optional-over : length s ≡ at → f .read [] ≡ short → locate (optional f) s at ≡ found none at
+  optional-over e o =
+      let k : length s ≤ at = omega arith in
+      let z : drop at s ≡ [] = drop-of-length-le s k in
+      optional-absent (omega arith) (rw (z, o) tt)
+
+  pub optional-none : at ≤ length s → f .read (drop at s) ≡ other → locate (optional f) s at ≡ found none at
+  optional-none h e = optional-absent h (absent-other (drop at s) e)
 
   pub optional-bad : (rest : List ℕ) → f .read (drop at s) ≡ wrong rest → locate (optional f) s at ≡ wrongAt (length s - length rest)
   unfolding locate
@@ -92,26 +104,25 @@ module _ {A : Type 0} (f : Format A) (s : List ℕ) (at : ℕ) where
       ap (λ r. located (length s) at (opt r)) e
       ∙ ap (λ t. located (length s) at (maybe {A = A} none t short λ a rest. value (some a) rest)) (drop-cons s at 0 h)
 
+  open-go : at < length s → (r : Answer A) → (r ≡ other → ⊥) → located (length s) at (opt r) ≡ onFound some (located (length s) at r)
+  open-go h (value a rest) n = refl
+  open-go h other n = absurd (n refl)
+  open-go h (wrong rest) n = refl
+  open-go h short n = ap (λ t. located (length s) at (maybe {A = A} none t short λ a rest. value (some a) rest)) (drop-cons s at 0 h)
+
+  -- where it has begun
+  pub optional-open : at < length s → (f .read (drop at s) ≡ other → ⊥) → locate (optional f) s at ≡ onFound some (locate f s at)
+  unfolding locate
+  optional-open h n = open-go h (f .read (drop at s)) n
+
 -- An optional sequence: it is there where its first part is, and not where that is wrong at once.
 module _ {A B : Type 0} (f : Format A) (g : A → Format B) (s : List ℕ) (at : ℕ) where
   abbrev then : A → List ℕ → Answer (A × B)
   then a rest = second (λ b. (a, b)) rest (g a .read rest)
 
-  begun-go : at < length s → (a : A) (rest : List ℕ) (r : Answer B)
-      → located {A = Option (A × B)} (length s) at (maybe none (drop at s) (second (λ b. (a, b)) rest r) λ p left. value (some p) left)
-      ≡ onFound some (located (length s) at (second (λ b. (a, b)) rest r))
-  begun-go h a rest (value b left) = refl
-  begun-go h a rest other = refl
-  begun-go h a rest (wrong left) = refl
-  begun-go h a rest short = ap (λ t. located {A = Option (A × B)} (length s) at (maybe {A = A × B} none t short λ p left. value (some p) left)) (drop-cons s at 0 h)
-
   pub optional-begun : (a : A) (rest : List ℕ) → f .read (drop at s) ≡ value a rest → at < length s
       → locate (optional (sequence f g)) s at ≡ onFound some (locate (sequence f g) s at)
-  unfolding locate
-  optional-begun a rest e h =
-      ap (λ r. located {A = Option (A × B)} (length s) at (maybe none (drop at s) (first r then) λ p left. value (some p) left)) e
-      ∙ begun-go h a rest (g a .read rest)
-      ∙ ap (λ r. onFound some (located (length s) at (first r then))) (sym e)
+  optional-begun a rest e h = optional-open (sequence f g) s at h (sequence-begun f g (drop at s) a rest e)
 
   pub optional-other : at ≤ length s → f .read (drop at s) ≡ other → locate (optional (sequence f g)) s at ≡ found none at
   optional-other h e = optional-none (sequence f g) s at h (ap (λ r. first r then) e)
@@ -121,10 +132,7 @@ module _ {A B : Type 0} (f : Format A) (g : A → Format B) (s : List ℕ) (at :
 
 -- An empty text.
 pub optional-empty : {A B : Type 0} (f : Format A) (g : A → Format B) (s : List ℕ) → [] ≡ s → f .read [] ≡ short → locate (optional (sequence f g)) s 0 ≡ found none 0
-unfolding locate
-optional-empty {A = A} {B = B} f g s e o =
-    ap (λ u. located (length u) 0 (optional (sequence f g) .read u)) (sym e)
-    ∙ ap (λ r. located {A = Option (A × B)} 0 0 (maybe none [] (first r λ a rest. second (λ b. (a, b)) rest (g a .read rest)) λ p left. value (some p) left)) o
+optional-empty f g s e o = optional-over (sequence f g) s 0 (sym (ap length e)) (ap (λ r. first r λ a rest. second (λ b. (a, b)) rest (g a .read rest)) o)
 
 -- One or more, from what zero or more find.
 abbrev pub oneOrMore : {A : Type 0} → ℕ → Located (List A) → Located (A × List A)

@@ -1,5 +1,6 @@
 pub mod Lists
 pub mod Lawful
+pub mod Begun
 pub mod Sequence
 pub mod Parts
 pub mod Many
@@ -13,6 +14,7 @@ pub mod Numbered
 pub mod NumberPlaces
 pub mod Delimited
 pub mod Numerals
+pub mod Open
 pub mod Loop
 pub mod At
 pub mod Ends

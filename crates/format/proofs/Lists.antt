@@ -1,10 +1,16 @@
--- What holds of every element of a list, or of two lists element by element.
-use mathlib.Core.List.{List, [], _∷_, _++_, map}
-use Rattle.format.specs.Format.{All, Pairwise}
+-- What holds of every element of a list, or of two lists element by element, and what two equal lists begin with.
+use mathlib.Core.List.{List, [], _∷_, _++_, map, foldr, Perm, Perm·foldr-eq}
+use mathlib.Core.Path.{_≡_, refl, sym, ap, _∙_}
+use mathlib.Core.Bool.{Bool, true, _&&_, and-true, and-assoc, and-comm, and-eq-true-iff, Bool-set}
+use Rattle.format.specs.Format.{All, Pairwise, every}
 
 pub all-append : {A : Type 0} (P : A → Type 0) (l m : List A) → All P l → All P m → All P (l ++ m)
 all-append P [] m p q = q
 all-append P (a ∷ l) m p q = (p .0, all-append P l m (p .1) q)
+
+pub all-parts : {A : Type 0} (P : A → Type 0) (l m : List A) → All P (l ++ m) → All P l × All P m
+all-parts P [] m ok = (tt, ok)
+all-parts P (a ∷ l) m ok = let k = all-parts P l m (ok .1) in ((ok .0, k .0), k .1)
 
 pub all-map : {A B : Type 0} (P : B → Type 0) (f : A → B) (l : List A) → All (λ a. P (f a)) l → All P (map f l)
 all-map P f [] ok = tt
@@ -19,3 +25,44 @@ pairs-append R [] k [] n a b = b
 pairs-append R [] k (y ∷ m) n a b = absurd a
 pairs-append R (x ∷ l) k [] n a b = absurd a
 pairs-append R (x ∷ l) k (y ∷ m) n a b = (a .0, pairs-append R l k m n (a .1) b)
+
+pub cons-head : {A : Type 0} {a b : A} {l m : List A} → a ∷ l ≡ b ∷ m → a ≡ b
+cons-head e = cc
+
+pub cons-tail : {A : Type 0} {a b : A} {l m : List A} → a ∷ l ≡ b ∷ m → l ≡ m
+cons-tail e = cc
+
+-- a test that every element passes
+module _ {A : Type 0} (test : A → Bool) where
+  pub every-all : (l : List A) → every test l ≡ true → All (λ a. test a ≡ true) l
+  every-all [] e = tt
+  every-all (a ∷ l) e = let k = and-eq-true-iff (test a) (every test l) .0 e in (k .0, every-all l (k .1))
+
+  pub all-every : (l : List A) → All (λ a. test a ≡ true) l → every test l ≡ true
+  all-every [] k = refl
+  all-every (a ∷ l) k = and-eq-true-iff (test a) (every test l) .1 (k .0, all-every l (k .1))
+
+  pub every-append : (l m : List A) → every test (l ++ m) ≡ (every test l && every test m)
+  every-append [] m = refl
+  every-append (a ∷ l) m = ap (λ t. test a && t) (every-append l m) ∙ sym (and-assoc (test a) (every test l) (every test m))
+
+  pub every-snoc : (l : List A) (a : A) → every test (l ++ (a ∷ [])) ≡ (every test l && test a)
+  every-snoc l a = every-append l (a ∷ []) ∙ ap (λ t. every test l && t) (and-true (test a))
+
+  every-foldr : (l : List A) → every test l ≡ foldr (λ (a : A) (b : Bool). test a && b) true l
+  every-foldr [] = refl
+  every-foldr (a ∷ l) = ap (λ t. test a && t) (every-foldr l)
+
+  -- the order does not matter
+  pub every-perm : (l m : List A) → Perm l m → every test l ≡ every test m
+  every-perm l m p =
+      every-foldr l
+      ∙ Perm·foldr-eq Bool-set (λ (a : A) (b : Bool). test a && b)
+      (λ x y b. sym (and-assoc (test x) (test y) b) ∙ ap (λ t. t && b) (and-comm (test x) (test y)) ∙ and-assoc (test y) (test x) b)
+      p
+      true
+      ∙ sym (every-foldr m)
+
+pub every-true : {A : Type 0} (l : List A) → every (λ a. true) l ≡ true
+every-true [] = refl
+every-true (a ∷ l) = every-true l

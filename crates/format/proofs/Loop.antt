@@ -7,20 +7,10 @@ use lib.Seq.{drop-cons}
 use native.Mathlib.Omega.{arith}
 use Rattle.format.specs.Format.{Answer, value, other, wrong, short, Format, second, maybe, many}
 use Rattle.format.specs.Located.{Located, found, wrongAt, shortHere, located, locate, onFound}
-use Rattle.format.proofs.Lawful.{Lawful}
 use Rattle.format.proofs.Many.{step}
-use Rattle.format.proofs.Delimited.{Firm, Delimited, solid}
+use Rattle.format.proofs.Delimited.{Delimited}
+use Rattle.format.proofs.Open.{Open, delimited-open}
 use Rattle.format.proofs.At.{Strays, here, later, firm-strays, Got, got, cut-reads}
-
--- what a delimited format has, but for what may follow it, as an item with an optional coordinate
-pub record Open (w : ℕ) {A : Type 0} (f : Format A) : Type 0 where
-  pub lawful : Lawful w f
-  pub solid : (v : A) → f .Valid v → 1 ≤ length (f .write v)
-  pub empty : f .read [] ≡ short
-  pub firm : Firm f
-
-pub delimited-open : {A : Type 0} (w : ℕ) (f : Format A) → Delimited w f → Open w f
-delimited-open w f d = record { lawful = d .lawful; solid = solid w f d; empty = d .empty; firm = d .firm }
 
 module _ {A : Type 0} (w : ℕ) (f : Format A) (d : Open w f) (s : List ℕ) (i : ℕ) where
   pub strays : (p : ℕ) → locate f s i ≡ wrongAt p → Strays f s i p

@@ -1,12 +1,18 @@
 -- Zero or more of a lawful format that writes something for each value.
 use Prim.Native.Nat.{ℕ, zero, suc, _≤_, _<_}
 use mathlib.Core.List.{List, [], _∷_, _++_, append-assoc}
-use mathlib.Core.Path.{_≡_, refl, ap, _∙_}
+use mathlib.Core.Path.{_≡_, refl, sym, ap, _∙_}
 use lib.ListN.{length, length-append}
 use native.Mathlib.Omega.{arith}
-use Rattle.format.specs.Format.{Answer, value, other, wrong, short, Format, second, maybe, run, many, Absent}
+use Rattle.format.specs.Format.{Answer, value, other, wrong, short, Format, second, maybe, run, many}
 use Rattle.format.specs.Places.{Whole}
 use Rattle.format.proofs.Lawful.{Says, Lawful, whole-append, second-says}
+use Rattle.format.proofs.Begun.{absent-reads}
+
+-- what is written is written one after the other
+pub write-append : {A : Type 0} (f : Format A) (l m : List A) → many f .write (l ++ m) ≡ many f .write l ++ many f .write m
+write-append f [] m = refl
+write-append f (a ∷ l) m = ap (λ t. f .write a ++ t) (write-append f l m) ∙ sym (append-assoc (f .write a) (many f .write l) (many f .write m))
 
 module _ {A : Type 0} (w : ℕ) (f : Format A) (l : Lawful w f) (solid : (a : A) → f .Valid a → 1 ≤ length (f .write a)) where
   abbrev h : Format (List A)
@@ -62,19 +68,12 @@ module _ {A : Type 0} (w : ℕ) (f : Format A) (l : Lawful w f) (solid : (a : A)
   says-upto (suc n) text p =
       rw (step text) (says-go text (f .read text) refl (l .says text) λ rest z. says-upto n rest (omega arith))
 
-  absent-reads : (rest : List ℕ) (r : Answer A) → Absent rest r → again rest r ≡ value [] rest
-  absent-reads rest (value a left) p = absurd p
-  absent-reads rest other p = refl
-  absent-reads rest (wrong left) p = absurd p
-  absent-reads [] short p = refl
-  absent-reads (b ∷ rest) short p = absurd p
-
   whole-all : (v : List A) → h .Valid v → Whole w (h .write v)
   whole-all [] ok = (0, omega arith)
   whole-all (a ∷ v) ok = whole-append w (f .write a) (h .write v) (l .whole a (ok .0)) (whole-all v (ok .1))
 
   reads-all : (v : List A) (rest : List ℕ) → h .Valid v → h .Follow v rest → h .read (h .write v ++ rest) ≡ value v rest
-  reads-all [] rest ok p = step rest ∙ absent-reads rest (f .read rest) p
+  reads-all [] rest ok p = step rest ∙ absent-reads [] rest (f .read rest) (λ a left. second (λ l. a ∷ l) left (h .read left)) p
   reads-all (a ∷ v) rest ok p =
       let y = h .write v ++ rest in
       ap (h .read) (append-assoc (f .write a) (h .write v) rest)

@@ -8,9 +8,10 @@ use mathlib.Core.Option.{Option, none, some}
 use lib.Dec.{ltb}
 use lib.ListN.{length}
 use native.Mathlib.Omega.{arith}
-use Rattle.format.specs.Format.{Answer, value, other, wrong, short, Format, choose, first, mapped, maybe, optional, either, orElse, end, endRead, Absent}
+use Rattle.format.specs.Format.{Answer, value, other, wrong, short, Format, choose, first, mapped, maybe, optional, either, orElse, end, endRead}
 use Rattle.format.specs.Places.{Whole}
 use Rattle.format.proofs.Lawful.{Says, Lawful}
+use Rattle.format.proofs.Begun.{absent-reads}
 
 -- to and from are inverse between the values of f and those with P
 pub record Inverse {A B : Type 0} (f : Format A) (to : A → B) (from : B → A) (P : B → Type 0) : Type 0 where
@@ -59,19 +60,12 @@ module _ {A : Type 0} (w : ℕ) (f : Format A) (l : Lawful w f) where
   o-says [] short e s = (refl, tt, rw e tt)
   o-says (b ∷ text) short e s = tt
 
-  absent-reads : (rest : List ℕ) (r : Answer A) → Absent rest r → ok-on rest r ≡ value none rest
-  absent-reads rest (value a left) p = absurd p
-  absent-reads rest other p = refl
-  absent-reads rest (wrong left) p = absurd p
-  absent-reads [] short p = refl
-  absent-reads (b ∷ rest) short p = absurd p
-
   o-whole : (v : Option A) → oh .Valid v → Whole w (oh .write v)
   o-whole none ok = whole-nil w
   o-whole (some a) ok = l .whole a ok
 
   o-reads : (v : Option A) (rest : List ℕ) → oh .Valid v → oh .Follow v rest → oh .read (oh .write v ++ rest) ≡ value v rest
-  o-reads none rest ok p = absent-reads rest (f .read rest) p
+  o-reads none rest ok p = absent-reads none rest (f .read rest) (λ a left. value (some a) left) p
   o-reads (some a) rest ok p = ap (ok-on (f .write a ++ rest)) (l .reads a rest ok p)
 
   pub optional-lawful : Lawful w (optional f)

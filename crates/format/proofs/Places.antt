@@ -16,6 +16,7 @@ use Rattle.format.proofs.Lawful.{Says}
 use Rattle.format.proofs.Reading.{whole-inverse, whole-written, reads-formed}
 use Rattle.format.proofs.Exact.{Exact, Fails}
 use Rattle.format.proofs.ExactParts.{sequence-exact, mapped-exact, end-exact}
+use Rattle.format.proofs.Delimited.{short-value}
 
 wrong-value : {A : Type 0} {X : Type 0} {v : A} {r s : List ℕ} → wrong r ≡ value v s → X
 wrong-value e = absurd (let z : _≡_ {A = ℕ} 0 1 = cc in omega arith)
@@ -23,11 +24,8 @@ wrong-value e = absurd (let z : _≡_ {A = ℕ} 0 1 = cc in omega arith)
 other-value : {A : Type 0} {X : Type 0} {v : A} {s : List ℕ} → other ≡ value v s → X
 other-value e = absurd (let z : _≡_ {A = ℕ} 0 1 = cc in omega arith)
 
-short-value : {A : Type 0} {X : Type 0} {v : A} {s : List ℕ} → short ≡ value v s → X
-short-value e = absurd (let z : _≡_ {A = ℕ} 0 1 = cc in omega arith)
-
-same-value : {A : Type 0} {v u : A} {r s : List ℕ} → value v r ≡ value u s → fine v ≡ fine u
-same-value e = ap fine cc
+same-value : {A : Type 0} {v u : A} {r s : List ℕ} → value v r ≡ value u s → v ≡ u
+same-value e = cc
 
 omega-length : (text x y : List ℕ) → text ≡ x ++ y → length text ≡ length x + length y
 omega-length text x y e = ap length e ∙ length-append x y
@@ -46,15 +44,40 @@ begins-less f text j i k b = record {
       ∙ append-assoc (take j text) (drop j (take i text)) (b .more);
 }
 
-formed-begins : {A : Type 0} (f : Format A) (text : List ℕ) (j : ℕ) (v : A) → f .Valid v → text ≡ f .write v → Begins f (take j text)
-formed-begins f text j v ok e = record { says = v; valid = ok; more = drop j text; is = sym e ∙ sym (take-append-drop j text) }
-
 -- of two whole numbers of units, the less is less by a unit
 apart : (w n m p q : ℕ) → p ≡ n * w → q ≡ m * w → p < q → p + w ≤ q
 apart w n m p q a b k =
     let z : n < m = lt-of-mul-lt-mul-right w (omega arith) in
     let y : suc n * w ≤ m * w = mul-le-mul-right w (omega arith) in
     omega (arith, y, suc-mul n w)
+
+-- where what is written says what it means, no text has two outcomes
+module _ {A : Type 0} (w : ℕ) (f : Format A) (one : (v u : A) → f .Valid v → f .Valid u → f .write v ≡ f .write u → v ≡ u) (text : List ℕ) where
+  formed-begins : (j : ℕ) (v : A) → f .Valid v → text ≡ f .write v → Begins f (take j text)
+  formed-begins j v ok e = record { says = v; valid = ok; more = drop j text; is = sym e ∙ sym (take-append-drop j text) }
+
+  below : (p q : ℕ) → Refused w f text p → Refused w f text q → p < q → ⊥
+  below p q a b k = a .never (begins-less f text (p + w) q (apart w (a .unit) (b .unit) p q (a .multiple) (b .multiple) k) (b .begins))
+
+  uncut : (p : ℕ) → Refused w f text p → EndsShort w f text → ⊥
+  uncut p a b =
+      a .never (begins-less f text (p + w) (b .units * w) (apart w (a .unit) (b .units) p (b .units * w) (a .multiple) refl (omega (arith, a .inside, b .less))) (b .begins))
+
+  same-place : (p q : ℕ) → Refused w f text p → Refused w f text q → (s t : Bool) → ltb p q ≡ s → ltb q p ≡ t → p ≡ q
+  same-place p q a b true t x y = absurd (below p q a b (ltb-true p q x))
+  same-place p q a b false true x y = absurd (below q p b a (ltb-true q p y))
+  same-place p q a b false false x y = omega (arith, ltb-false p q x, ltb-false q p y)
+
+  pub one-outcome : (o k : Outcome A) → Means w f text o → Means w f text k → o ≡ k
+  one-outcome (fine v) (fine u) a b = ap fine (one v u (a .0) (b .0) (sym (a .1) ∙ b .1))
+  one-outcome (fine v) (refused p) a b = absurd (b .never (formed-begins (p + w) v (a .0) (a .1)))
+  one-outcome (fine v) endsShort a b = absurd (b .unformed (record { says = v; valid = a .0; is = a .1 }))
+  one-outcome (refused p) (fine v) a b = absurd (a .never (formed-begins (p + w) v (b .0) (b .1)))
+  one-outcome (refused p) (refused q) a b = ap refused (same-place p q a b (ltb p q) (ltb q p) refl refl)
+  one-outcome (refused p) endsShort a b = absurd (uncut p a b)
+  one-outcome endsShort (fine v) a b = absurd (a .unformed (record { says = v; valid = b .0; is = b .1 }))
+  one-outcome endsShort (refused p) a b = absurd (uncut p b a)
+  one-outcome endsShort endsShort a b = refl
 
 module _ {A : Type 0} (w : ℕ) (f : Format A) (l : Exact w f) (ready : (v : A) → f .Valid v → f .Follow v []) where
   abbrev h : Format A
@@ -118,71 +141,52 @@ module _ {A : Type 0} (w : ℕ) (f : Format A) (l : Exact w f) (ready : (v : A) 
   pub places : (text : List ℕ) → Means w f text (reading w f text)
   places text = means-go text (h .read text) refl (lh .lawful .says text) (lh .fails text)
 
-  below : (text : List ℕ) (p q : ℕ) → Refused w f text p → Refused w f text q → p < q → ⊥
-  below text p q a b k = a .never (begins-less f text (p + w) q (apart w (a .unit) (b .unit) p q (a .multiple) (b .multiple) k) (b .begins))
-
-  uncut : (text : List ℕ) (p : ℕ) → Refused w f text p → EndsShort w f text → ⊥
-  uncut text p a b =
-      a .never (begins-less f text (p + w) (b .units * w) (apart w (a .unit) (b .units) p (b .units * w) (a .multiple) refl (omega (arith, a .inside, b .less))) (b .begins))
-
-  same-place : (text : List ℕ) (p q : ℕ) → Refused w f text p → Refused w f text q → (s t : Bool) → ltb p q ≡ s → ltb q p ≡ t → p ≡ q
-  same-place text p q a b true t x y = absurd (below text p q a b (ltb-true p q x))
-  same-place text p q a b false true x y = absurd (below text q p b a (ltb-true q p y))
-  same-place text p q a b false false x y = omega (arith, ltb-false p q x, ltb-false q p y)
-
-  -- no text has two outcomes
-  pub one-outcome : (text : List ℕ) (o k : Outcome A) → Means w f text o → Means w f text k → o ≡ k
-  one-outcome text (fine v) (fine u) a b =
-      same-value (sym (reads v (a .0)) ∙ ap (h .read) (sym (a .1) ∙ b .1) ∙ reads u (b .0))
-  one-outcome text (fine v) (refused p) a b = absurd (b .never (formed-begins f text (p + w) v (a .0) (a .1)))
-  one-outcome text (fine v) endsShort a b = absurd (b .unformed (record { says = v; valid = a .0; is = a .1 }))
-  one-outcome text (refused p) (fine v) a b = absurd (a .never (formed-begins f text (p + w) v (b .0) (b .1)))
-  one-outcome text (refused p) (refused q) a b = ap refused (same-place text p q a b (ltb p q) (ltb q p) refl refl)
-  one-outcome text (refused p) endsShort a b = absurd (uncut text p a b)
-  one-outcome text endsShort (fine v) a b = absurd (a .unformed (record { says = v; valid = b .0; is = b .1 }))
-  one-outcome text endsShort (refused p) a b = absurd (uncut text p b a)
-  one-outcome text endsShort endsShort a b = refl
+  same-said : (v u : A) → f .Valid v → f .Valid u → f .write v ≡ f .write u → v ≡ u
+  same-said v u p q e = same-value (sym (reads v p) ∙ ap (h .read) e ∙ reads u q)
 
   -- THE LAW OF PLACES, both ways: an outcome is given exactly where it holds
   pub exactly : (text : List ℕ) (o : Outcome A) → (reading w f text ≡ o) ↔ Means w f text o
-  exactly text o = (λ e. rw e at (places text), λ m. one-outcome text (reading w f text) o (places text) m)
+  exactly text o = (λ e. rw e at (places text), λ m. one-outcome w f same-said text (reading w f text) o (places text) m)
 
--- where a unit is a byte, the law in the paper's words
-module _ {A : Type 0} (f : Format A) (l : Exact 1 f) (ready : (v : A) → f .Valid v → f .Follow v []) where
-  inside-go : (text : List ℕ) (p : ℕ) → Begins f (take p text) → (Begins f (take (p + 1) text) → ⊥) → (t : Bool) → ltb p (length text) ≡ t → p + 1 ≤ length text
-  inside-go text p b n true e = omega (arith, ltb-true p (length text) e)
-  inside-go text p b n false e =
+-- where a unit is a byte, the places in the paper's words
+module _ {A : Type 0} (f : Format A) (text : List ℕ) where
+  inside-go : (p : ℕ) → FirstWrong f text p → (t : Bool) → ltb p (length text) ≡ t → p + 1 ≤ length text
+  inside-go p m true e = omega (arith, ltb-true p (length text) e)
+  inside-go p m false e =
       let k : length text ≤ p = ltb-false p (length text) e in
       let z : take p text ≡ take (p + 1) text = take-all p text k ∙ sym (take-all (p + 1) text (omega arith)) in
-      absurd (n (rw z at b))
+      absurd (m .never (rw z at (m .begins)))
 
-  wrong-exactly : (text : List ℕ) (p : ℕ) → (reading 1 f text ≡ refused p) ↔ FirstWrong f text p
-  wrong-exactly text p = (
-    λ e. let m = exactly 1 f l ready text (refused p) .0 e in record { begins = m .begins; never = m .never },
-    λ m. exactly 1 f l ready text (refused p) .1
-        (record {
-          inside = inside-go text p (m .begins) (m .never) (ltb p (length text)) refl;
-          unit = p;
-          multiple = sym (mul-one p);
-          begins = m .begins;
-          never = m .never;
-        }),
+  pub refused-bytes : (p : ℕ) → Refused 1 f text p ↔ FirstWrong f text p
+  refused-bytes p = (
+    λ m. record { begins = m .begins; never = m .never },
+    λ m. record { inside = inside-go p m (ltb p (length text)) refl; unit = p; multiple = sym (mul-one p); begins = m .begins; never = m .never },
   )
 
-  short-exactly : (text : List ℕ) → (reading 1 f text ≡ endsShort) ↔ Unfinished f text
-  short-exactly text = (
-    λ e. let m = exactly 1 f l ready text endsShort .0 e in
-        let k : m .units * 1 ≡ length text = omega (arith, m .inside, m .less) in
+  pub short-bytes : EndsShort 1 f text ↔ Unfinished f text
+  short-bytes = (
+    λ m. let k : m .units * 1 ≡ length text = omega (arith, m .inside, m .less) in
         (rw (k, take-all (length text) text (omega arith)) at (m .begins), m .unformed),
-    λ m. exactly 1 f l ready text endsShort .1
-        (record {
-          units = length text;
-          inside = omega arith;
-          less = omega arith;
-          begins = rw (mul-one (length text), take-all (length text) text (omega arith)) (m .0);
-          unformed = m .1;
-        }),
+    λ m. record {
+      units = length text;
+      inside = omega arith;
+      less = omega arith;
+      begins = rw (mul-one (length text), take-all (length text) text (omega arith)) (m .0);
+      unformed = m .1;
+    },
   )
+
+-- and so the law
+module _ {A : Type 0} (f : Format A) (l : Exact 1 f) (ready : (v : A) → f .Valid v → f .Follow v []) where
+  module _ (text : List ℕ) where
+    abbrev law : (o : Outcome A) → (reading 1 f text ≡ o) ↔ Means 1 f text o
+    law = exactly 1 f l ready text
+
+    wrong-exactly : (p : ℕ) → (reading 1 f text ≡ refused p) ↔ FirstWrong f text p
+    wrong-exactly p = (λ e. refused-bytes f text p .0 (law (refused p) .0 e), λ m. law (refused p) .1 (refused-bytes f text p .1 m))
+
+    short-exactly : (reading 1 f text ≡ endsShort) ↔ Unfinished f text
+    short-exactly = (λ e. short-bytes f text .0 (law endsShort .0 e), λ m. law endsShort .1 (short-bytes f text .1 m))
 
   pub by-bytes : ByBytes f
   by-bytes = record { wrong = wrong-exactly; short = short-exactly }

@@ -17,6 +17,9 @@ pub whole-lawful : {A : Type 0} (w : ℕ) (f : Format A) → Lawful w f → Lawf
 whole-lawful w f l =
     mapped-lawful w (sequence f λ a. end w) (λ p. p .0) (λ a. (a, tt)) (f .Valid) (sequence-lawful w f (λ a. end w) l λ a ok. end-lawful w) (whole-inverse w f)
 
+pub same-fine : {A : Type 0} {v u : A} → fine v ≡ fine u → v ≡ u
+same-fine e = cc
+
 module _ {A : Type 0} (w : ℕ) (f : Format A) (l : Lawful w f) where
   abbrev h : Format A
   h = whole w f

@@ -2,7 +2,7 @@
 use Prim.Native.Nat.{ℕ, zero, suc, _≤_}
 use mathlib.Core.Path.{_≡_}
 use mathlib.Core.List.{List, [], _∷_, _++_}
-use mathlib.Core.Bool.{Bool, true, false}
+use mathlib.Core.Bool.{Bool, true, false, _&&_}
 use mathlib.Core.Logic.{_⊎_, inl, inr}
 use mathlib.Core.Option.{Option, none, some}
 use lib.Dec.{ltb}
@@ -137,6 +137,11 @@ Pairwise R [] [] = Unit
 Pairwise R [] (b ∷ m) = ⊥
 Pairwise R (a ∷ l) [] = ⊥
 Pairwise R (a ∷ l) (b ∷ m) = R a b × Pairwise R l m
+
+-- every element passes a test
+abbrev pub every : {A : Type 0} → (A → Bool) → List A → Bool
+every test [] = true
+every test (a ∷ l) = test a && every test l
 
 -- those of a list that pass a test, in their order
 unfoldable pub keep : {A : Type 0} → (A → Bool) → List A → List A

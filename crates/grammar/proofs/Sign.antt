@@ -7,6 +7,7 @@ use native.Mathlib.Omega.{arith}
 use Rattle.format.specs.Format.{Answer, other, Format, All, second, optional, many, Absent, FollowAll}
 use Rattle.format.specs.Numeral.{Range}
 use Rattle.format.proofs.Lawful.{Lawful}
+use Rattle.format.proofs.Begun.{absent-other}
 use Rattle.format.proofs.Sequence.{sequence-lawful}
 pub use Rattle.format.proofs.Sequence.{sequence-other}
 use Rattle.format.proofs.Parts.{Inverse, mapped-lawful, optional-lawful}
@@ -22,9 +23,6 @@ use Rattle.grammar.specs.Sign.{Spatial, Meaning, ValidSymbol, Valid, poi
 pub all-follow : {A : Type 0} (w : ℕ) (f : Format A) → Delimited w f → (v : List A) (rest : List ℕ) → many f .Valid v → Absent rest (f .read rest) → FollowAll f v rest
 all-follow w f t [] rest ok p = p
 all-follow w f t (a ∷ v) rest ok p = (all-follow w f t v rest (ok .1) p, t .free a (many f .write v ++ rest) (ok .0))
-
-pub absent-other : {A : Type 0} (text : List ℕ) {r : Answer A} → r ≡ other → Absent text r
-absent-other text e = rw e tt
 
 module _ (t : Tokens) (l : LawfulTokens t) where
   pub point-fixed : Fixed (t .unit) (t .numberSize + t .secondSize) (point t)

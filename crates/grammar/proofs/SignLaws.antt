@@ -4,7 +4,7 @@ use mathlib.Core.List.{List}
 use mathlib.Core.Path.{_≡_, refl, sym, ap, _∙_}
 use mathlib.Core.Logic.{_↔_}
 use Rattle.format.specs.Places.{fine}
-use Rattle.format.proofs.Reading.{fine-exactly}
+use Rattle.format.proofs.Reading.{fine-exactly, same-fine}
 use Rattle.format.proofs.Places.{exactly}
 use Rattle.charset.specs.declared.Charset.{Charset}
 use Rattle.charset.specs.declared.Charset.the-variants.{Fsw, Swu}
@@ -15,14 +15,11 @@ use Rattle.grammar.proofs.Sign.{sign-lawful, sign-ready}
 use Rattle.grammar.proofs.ExactSign.{sign-exact}
 use Rattle.grammar.proofs.SignPlaces.{fsw-places}
 
-sign-fine : (set : Charset) (text : List ℕ) (m : Meaning) → (readSign set text ≡ fine m) ↔ (Valid m × (text ≡ signText set m))
+pub sign-fine : (set : Charset) (text : List ℕ) (m : Meaning) → (readSign set text ≡ fine m) ↔ (Valid m × (text ≡ signText set m))
 sign-fine set = fine-exactly (tokens set .unit) (sign set) (sign-lawful set) (sign-ready set)
 
 reads : (set : Charset) (m : Meaning) → Valid m → readSign set (signText set m) ≡ fine m
 reads set m ok = sign-fine set (signText set m) m .1 (ok, refl)
-
-same-fine : {m k : Meaning} → fine m ≡ fine k → m ≡ k
-same-fine e = cc
 
 places : (set : Charset) → SignPlaces set
 places Fsw = fsw-places

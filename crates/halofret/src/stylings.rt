@@ -31,8 +31,17 @@ pub extern "C" fn halofret_read_styled(
     let mut codes = [0u16; 64];
     let mut xs = [0u16; 64];
     let mut ys = [0u16; 64];
+    let mut draft = [0u16; 504];
     let set = set_of(swu);
-    let h = styled_into(set, text, &mut prefix, &mut codes, &mut xs, &mut ys);
+    let h = styled_into(
+        set,
+        text,
+        &mut prefix,
+        &mut codes,
+        &mut xs,
+        &mut ys,
+        &mut draft,
+    );
     let number = h.number;
     let place = h.place;
     if number != DONE {
@@ -41,7 +50,7 @@ pub extern "C" fn halofret_read_styled(
     }
     *answer = [0, 0];
     put_sign(sign, set, h, &prefix, &codes, &xs, &ys);
-    fill(&text[place..], styling);
+    fill(&text[place..], &draft, styling);
 }
 
 // Writes a sign in the other character set, and the bytes of its styling as they are.

@@ -1,29 +1,18 @@
 -- Numbers copied into an array one after the other, until they fill it.
-use Prim.Native.Nat.{ℕ, _+_, _-_, _≤_, _<_}
+use Prim.Native.Nat.{ℕ, _+_, _-_, _≤_}
 use mathlib.Core.List.{List, [], _++_}
 use mathlib.Core.Path.{_≡_, refl, sym, ap, _∙_}
-use lib.ListN.{length, set, getD, take, drop, length-replicate, replicate-append-replicate}
-use lib.Seq.{paste, paste-suc, length-paste, take-paste, drop-paste, take-all, drop-drop, drop-at}
-use native.Mathlib.Numerals.{add-one}
+use lib.ListN.{length, take, drop, length-replicate}
+use lib.Seq.{paste, take-paste, drop-paste, take-all, drop-drop}
 use native.Mathlib.Omega.{arith}
 use Rattle.token.specs.Padded.{zeros}
-
--- i numbers are copied
-module _ (d : List ℕ) (at : ℕ) (s : List ℕ) (room : at + length s ≤ length d) where
-  pub copy-on : (i : ℕ) (e : List ℕ) → e ≡ paste d at s i → i < length s → set e (at + i) (getD s i 0) ≡ paste d at s (i + 1)
-  copy-on i e p h = ap (λ l. set l (at + i) (getD s i 0)) p ∙ paste-suc d at s i 0 (omega arith) h ∙ ap (paste d at s) (sym (add-one i))
-
-  pub copy-length : (i : ℕ) (e : List ℕ) → e ≡ paste d at s i → i ≤ length s → length e ≡ length d
-  copy-length i e p h = ap length p ∙ length-paste d at s i (omega arith) h
+use Rattle.sign.proofs.Copies.{copy-length, zeros-left}
 
 -- the first n numbers of an array, and zeros after them
 pub record Filled (size n : ℕ) (array front : List ℕ) : Type 0 where
   pub whole : length array ≡ size
   pub is : take n array ≡ front
   pub rest : drop n array ≡ zeros (size - n)
-
-zeros-left : (a b : ℕ) → drop a (zeros (a + b)) ≡ zeros b
-zeros-left a b = ap (drop a) (sym (replicate-append-replicate a b 0)) ∙ drop-at (zeros a) (zeros b) a (length-replicate a 0)
 
 pub filled-none : (size : ℕ) → Filled size 0 (zeros size) []
 filled-none size = record { whole = length-replicate size 0; is = refl; rest = let k : size ≡ size - 0 = omega arith in ap zeros k }

@@ -1,26 +1,12 @@
 // A sign as 325 numbers.
 ghost use mathlib.Core.Path.{_≡_};
-ghost use Prim.Native.Nat.{_+_, _≤_};
-ghost use lib.ListN.{length};
-ghost use lib.Seq.{paste};
 ghost use Rattle.layout.specs.Layouts.{signNumbers};
 ghost use Rattle.sign.specs.Inner.{signIn, Counted};
 use charset::Charset;
 use reader::arrays::Head;
+use sign::copying::put;
 use sign::offsets::put_prefix_offsets;
 use sign::offsets::put_symbol_offsets;
-
-// Copies numbers into an array from a place on.
-fn put(to: &mut [u16], at: usize, from: &[u16])
-    requires { ⌜ at + length (now from) ≤ length (now to) ⌝ }
-    ensures { λ _. ⌜ now (to .exit) ≡ paste (now (to .entry)) at (now (from .entry)) (length (now (from .entry))) ⌝ }
-{
-    let mut i: usize = 0;
-    while i < from.len() {
-        to[at + i] = from[i];
-        i += 1;
-    }
-}
 
 // Lays a sign out that was read into arrays. The zeros stay in the places of offsets that a sign has no symbols for.
 pub fn put_sign(

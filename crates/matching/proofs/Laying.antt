@@ -11,7 +11,7 @@ use borrow.Author.Tests.{lt-ltb}
 use Rattle.format.specs.Format.{choose, All}
 use Rattle.grammar.specs.Sign.{Spatial, Meaning}
 use Rattle.token.specs.Padded.{padded}
-use Rattle.reader.proofs.Filling.{padded-length}
+use Rattle.token.proofs.PaddedLists.{padded-length, padded-append}
 use Rattle.writer.specs.Arrays.{upto}
 use Rattle.writer.proofs.Upto.{upto-is, map-upto}
 use Rattle.querygrammar.specs.Query.{Item, rangeItem, Prefix, free, present, begins, Sought, Query, itemsOf, kindOf, ValidItem, ValidSought, ValidQuery}
@@ -85,17 +85,6 @@ all-at P [] d p i h = absurd (omega arith)
 all-at P (a ∷ l) d p zero h = p .0
 all-at P (a ∷ l) d p (suc i) h = all-at P l d (p .1) i (omega arith)
 
-padded-rest : (k : ℕ) (l : List ℕ) → length l ≤ k → padded k l ≡ l ++ padded (k - length l) []
-unfolding padded
-padded-rest zero [] h = refl
-padded-rest zero (v ∷ l) h = absurd (omega arith)
-padded-rest (suc k) [] h =
-    let e : suc k - 0 ≡ suc k = omega arith in
-    rw e
-padded-rest (suc k) (v ∷ l) h =
-    let e : suc k - suc (length l) ≡ k - length l = omega arith in
-    ap (λ m. v ∷ m) (padded-rest k l (omega arith)) ∙ rw e
-
 -- THE WORDS OF A QUERY
 
 module _ (q : Query) where
@@ -122,7 +111,7 @@ module _ (q : Query) where
 
     begin : words ≡ kindOf (q .prefix) ∷ length asked ∷ length (q .items) ∷ q .variance ∷ ((rowsWords bares ++ rowsWords (q .items)) ++ rest)
     unfolding wordsOf
-    begin = padded-rest wordCount (wordsOf q) (words-room q few few-items)
+    begin = let h = words-room q few few-items in padded-append (wordsOf q) (wordCount - length (wordsOf q)) wordCount (omega arith)
 
     kind-is : word words 0 ≡ kindOf (q .prefix)
     kind-is = ap (λ l. getD l 0 0) begin

@@ -10,8 +10,9 @@ use native.Mathlib.Nat.{eq-or-lt-of-le}
 use native.Mathlib.Numerals.{add-one}
 use borrow.Author.Tests.{eq-eqb, ne-eqb}
 use Rattle.token.specs.Padded.{padded, zeros}
+use Rattle.token.proofs.PaddedLists.{padded-none}
 use Rattle.writer.specs.Arrays.{upto}
-use Rattle.reader.proofs.Filling.{padded-none, put-more}
+use Rattle.reader.proofs.Filling.{put-more}
 use Rattle.writer.proofs.Upto.{upto-length, upto-at, map-upto}
 use Rattle.matching.specs.Meets.{beginsBy, firstFrom, unmet, met, missing, judged}
 

@@ -6,12 +6,12 @@ use mathlib.Core.List.{List, [], _∷_, map}
 use native.Mathlib.Omega.{arith}
 use lib.IntN.{subℕ}
 use lib.ListN.{length}
-use Rattle.format.specs.Format.{choose, keep}
+use Rattle.format.specs.Format.{choose, keep, every}
 use Rattle.grammar.specs.Sign.{Spatial}
 use Rattle.bounds.specs.declared.groups.Box.{Box}
 use Rattle.bounds.specs.Boxes.{widthOf, heightOf, symbolBox, grown, grownAll, Group, groupOf, isHead, isTrunk, groupIn, groupsOf}
 use Rattle.bounds.specs.Centre.{chosenBox}
-use Rattle.moving.specs.Moves.{stays, allOf, movedSymbol}
+use Rattle.moving.specs.Moves.{stays, movedSymbol}
 use Rattle.moving.proofs.Numbers.{stays-along}
 use Rattle.moving.proofs.Signs.{all-first}
 
@@ -87,8 +87,8 @@ module _ (u d v e : ℕ) where
         bottom = size-along v e (s .y) (shift s .y) (heightOf sizes (s .code)) y;
       }
 
-  boxes-along : (picks : ℕ → Bool) (sizes : List ℕ) (l : List Spatial) → allOf (stays (subℕ u d)) (map (λ s. s .x) l) ≡ true
-      → allOf (stays (subℕ v e)) (map (λ s. s .y) l) ≡ true
+  boxes-along : (picks : ℕ → Bool) (sizes : List ℕ) (l : List Spatial) → every (stays (subℕ u d)) (map (λ s. s .x) l) ≡ true
+      → every (stays (subℕ v e)) (map (λ s. s .y) l) ≡ true
       → BoxesAlong (map (symbolBox sizes) (keep (λ s. picks (s .code)) l)) (map (symbolBox sizes) (keep (λ s. picks (s .code)) (map shift l)))
   unfolding keep BoxesAlong
   boxes-along picks sizes [] h k = tt
@@ -104,8 +104,8 @@ module _ (u d v e : ℕ) where
       go sizes s kept after false a b = b
 
   -- the box that serves an axis moves along, whichever group it is
-  module _ (sizes : List ℕ) (l : List Spatial) (some : 0 < length l) (h : allOf (stays (subℕ u d)) (map (λ s. s .x) l) ≡ true)
-      (k : allOf (stays (subℕ v e)) (map (λ s. s .y) l) ≡ true) where
+  module _ (sizes : List ℕ) (l : List Spatial) (some : 0 < length l) (h : every (stays (subℕ u d)) (map (λ s. s .x) l) ≡ true)
+      (k : every (stays (subℕ v e)) (map (λ s. s .y) l) ≡ true) where
     along : (picks : ℕ → Bool) → GroupAlong (groupIn picks sizes l) (groupIn picks sizes (map shift l))
     along picks =
         group-along (map (symbolBox sizes) (keep (λ s. picks (s .code)) l)) (map (symbolBox sizes) (keep (λ s. picks (s .code)) (map shift l))) (boxes-along picks sizes l h k)

@@ -1,17 +1,19 @@
 -- The numbers of an axis in an array, moved one by one.
 use Prim.Native.Nat.{ℕ, zero, suc, _+_, _≤_, _<_}
 use mathlib.Core.Path.{_≡_, refl, sym, ap, _∙_}
-use mathlib.Core.Bool.{Bool, true, false, _&&_, not}
-use mathlib.Core.List.{List, [], _∷_, _++_}
+use mathlib.Core.Bool.{_&&_, not, false, and-true, and-false}
+use mathlib.Core.List.{List, [], _∷_}
 use native.Mathlib.Numerals.{add-one}
 use native.Mathlib.Omega.{arith}
 use borrow.Author.Tests.{eq-eqb, ne-eqb}
 use lib.Dec.{eqb}
 use lib.IntN.{ℤ}
 use lib.ListN.{length, getD, set}
+use Rattle.format.specs.Format.{every}
+use Rattle.format.proofs.Lists.{every-snoc}
 use Rattle.writer.specs.Arrays.{upto, at}
 use Rattle.bounds.proofs.Grouping.{upto-more}
-use Rattle.moving.specs.Moves.{stays, allOf}
+use Rattle.moving.specs.Moves.{stays}
 use Rattle.moving.specs.Inner.{movedOrZero, mapFirst}
 use Rattle.moving.proofs.Numbers.{stays-test}
 
@@ -42,40 +44,23 @@ map-length f zero l = refl
 map-length f (suc n) [] = refl
 map-length f (suc n) (a ∷ l) = ap suc (map-length f n l)
 
-and-assoc : (a b c : Bool) → a && (b && c) ≡ (a && b) && c
-and-assoc true b c = refl
-and-assoc false b c = refl
-
-and-true : (a : Bool) → a && true ≡ a
-and-true true = refl
-and-true false = refl
-
-and-false : (a : Bool) → a && false ≡ false
-and-false true = refl
-and-false false = refl
-
-all-append : {A : Type 0} (p : A → Bool) (l : List A) (a : A) → allOf p (l ++ (a ∷ [])) ≡ allOf p l && p a
-unfolding allOf
-all-append p [] a = and-true (p a)
-all-append p (b ∷ l) a = ap (λ t. p b && t) (all-append p l a) ∙ and-assoc (p b) (allOf p l) (p a)
-
-pub all-one : (by : ℤ) (most : ℕ) (values : List ℕ) → not (eqb (movedOrZero by most) 0) ≡ allOf (stays by) (most ∷ upto (at values) 0)
-unfolding allOf upto
+pub all-one : (by : ℤ) (most : ℕ) (values : List ℕ) → not (eqb (movedOrZero by most) 0) ≡ every (stays by) (most ∷ upto (at values) 0)
+unfolding upto
 all-one by most values = stays-test by most ∙ sym (and-true (stays by most))
 
 -- one number more, which leaves or stays
 module _ (by : ℤ) (most i : ℕ) (values : List ℕ) where
-  step : allOf (stays by) (most ∷ upto (at values) (i + 1)) ≡ allOf (stays by) (most ∷ upto (at values) i) && stays by (at values i)
-  step = ap (λ l. allOf (stays by) (most ∷ l)) (upto-more (at values) i) ∙ all-append (stays by) (most ∷ upto (at values) i) (at values i)
+  step : every (stays by) (most ∷ upto (at values) (i + 1)) ≡ every (stays by) (most ∷ upto (at values) i) && stays by (at values i)
+  step = ap (λ l. every (stays by) (most ∷ l)) (upto-more (at values) i) ∙ every-snoc (stays by) (most ∷ upto (at values) i) (at values i)
 
-  pub all-leaves : movedOrZero by (at values i) ≡ 0 → allOf (stays by) (most ∷ upto (at values) (i + 1)) ≡ false
+  pub all-leaves : movedOrZero by (at values i) ≡ 0 → every (stays by) (most ∷ upto (at values) (i + 1)) ≡ false
   all-leaves e =
       step
-      ∙ ap (λ t. allOf (stays by) (most ∷ upto (at values) i) && t) (sym (stays-test by (at values i)) ∙ ap not (eq-eqb (movedOrZero by (at values i)) 0 e))
-      ∙ and-false (allOf (stays by) (most ∷ upto (at values) i))
+      ∙ ap (λ t. every (stays by) (most ∷ upto (at values) i) && t) (sym (stays-test by (at values i)) ∙ ap not (eq-eqb (movedOrZero by (at values i)) 0 e))
+      ∙ and-false (every (stays by) (most ∷ upto (at values) i))
 
-  pub all-stays : (movedOrZero by (at values i) ≡ 0 → ⊥) → allOf (stays by) (most ∷ upto (at values) (i + 1)) ≡ allOf (stays by) (most ∷ upto (at values) i)
+  pub all-stays : (movedOrZero by (at values i) ≡ 0 → ⊥) → every (stays by) (most ∷ upto (at values) (i + 1)) ≡ every (stays by) (most ∷ upto (at values) i)
   all-stays e =
       step
-      ∙ ap (λ t. allOf (stays by) (most ∷ upto (at values) i) && t) (sym (stays-test by (at values i)) ∙ ap not (ne-eqb (movedOrZero by (at values i)) 0 e))
-      ∙ and-true (allOf (stays by) (most ∷ upto (at values) i))
+      ∙ ap (λ t. every (stays by) (most ∷ upto (at values) i) && t) (sym (stays-test by (at values i)) ∙ ap not (ne-eqb (movedOrZero by (at values i)) 0 e))
+      ∙ and-true (every (stays by) (most ∷ upto (at values) i))

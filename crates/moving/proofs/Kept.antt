@@ -1,11 +1,12 @@
 -- A sign that was moved has as many symbols as before, and they stand where they stood.
 use Prim.Native.Nat.{ℕ}
 use mathlib.Core.Path.{_≡_, refl, sym, ap, _∙_}
-use mathlib.Core.Bool.{_&&_}
+use mathlib.Core.Bool.{_&&_, and-eq-true-iff}
 use mathlib.Core.List.{List}
 use native.Mathlib.Omega.{arith}
 use lib.IntN.{ℤ}
 use lib.ListN.{length, length-map}
+use Rattle.format.specs.Format.{every}
 use Rattle.charset.specs.declared.Charset.{Charset}
 use Rattle.grammar.specs.Sign.{Meaning, Valid, signText}
 use Rattle.grammar.specs.Offsets.{prefixOffsets, symbolOffsets}
@@ -22,9 +23,8 @@ use Rattle.sign.proofs.Packed.{Within, sign-within}
 use Rattle.sign.proofs.Transcriptions.{written-reads}
 use Rattle.bounds.specs.Sizes.{measured}
 use Rattle.bounds.specs.Centre.{doubledOf}
-use Rattle.moving.specs.Moves.{stays, allOf, xsOf, ysOf, movedSymbol, movedMeaning, movedSign, shiftedText, toMiddle, restated, centredBy, centredSign, centredText}
+use Rattle.moving.specs.Moves.{stays, xsOf, ysOf, movedSymbol, movedMeaning, movedSign, shiftedText, toMiddle, restated, centredBy, centredSign, centredText}
 use Rattle.moving.specs.MovingLaws.{SameOffsets, shiftedIn, centredIn}
-use Rattle.moving.proofs.Numbers.{both}
 use Rattle.moving.proofs.Signs.{coded-of, moved-valid}
 use Rattle.moving.proofs.Repeated.{moved-counted, counted}
 
@@ -40,8 +40,8 @@ moved-kept : (dx dy : ℤ) (m : Meaning) (x y : ℕ) (new : Meaning) → Within 
 unfolding movedSign
 moved-kept dx dy m x y new w e =
     let old : Meaning = record { prefix = m .prefix; marker = m .marker; x = x; y = y; symbols = m .symbols } in
-    let c = check-done (allOf (stays dx) (xsOf old) && allOf (stays dy) (ysOf old)) numberOutside 0 (done (movedMeaning dx dy old)) e in
-    let stay = both (allOf (stays dx) (xsOf old)) (allOf (stays dy) (ysOf old)) (c .0) in
+    let c = check-done (every (stays dx) (xsOf old) && every (stays dy) (ysOf old)) numberOutside 0 (done (movedMeaning dx dy old)) e in
+    let stay = and-eq-true-iff (every (stays dx) (xsOf old)) (every (stays dy) (ysOf old)) .0 (c .0) in
     let as-many : length (movedMeaning dx dy old .symbols) ≡ length (m .symbols) = length-map (m .symbols) (movedSymbol dx dy) in
     let valid : Valid (movedMeaning dx dy old) = moved-valid dx dy old (coded-of m x y (w .valid)) (stay .0) (stay .1) in
     let within : Within (movedMeaning dx dy old) = record { prefix = w .prefix; symbols = omega (arith, as-many, w .symbols); valid = valid } in

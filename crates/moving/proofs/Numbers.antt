@@ -1,7 +1,7 @@
 -- A number that is moved by an amount: what is added, and what is taken away.
 use Prim.Native.Nat.{ℕ, suc, _+_, _-_, _≤_, _<_}
 use mathlib.Core.Path.{_≡_, refl, sym, ap, _∙_}
-use mathlib.Core.Bool.{Bool, true, false, _&&_, not, cond, false≢true}
+use mathlib.Core.Bool.{Bool, true, false, not, cond, false≢true, and-eq-true-iff}
 use native.Mathlib.Omega.{arith}
 use borrow.Author.Tests.{ltb-true, ltb-false, leb-true, lt-ltb, le-ltb, le-leb, lt-leb, ne-eqb}
 use lib.Dec.{ltb, leb, eqb}
@@ -65,12 +65,9 @@ module _ (n u d : ℕ) where
   moved-inside h k l = rw (sum-sub n u d, not-less (n + u) d h, le-leb 250 (n + u - d) k, le-leb (n + u - d) 749 l)
 
 -- a number of 250 to 749
-pub both : (a b : Bool) → a && b ≡ true → (a ≡ true) × (b ≡ true)
-both true b e = (refl, e)
-both false b e = absurd (false≢true e)
 
 number-of : (z : ℤ) → isNumber z ≡ true → (z ≡ pos (natAbs z)) × Number (natAbs z)
-number-of (pos k) e = let h = both (leb 250 k) (leb k 749) e in (refl, (leb-true 250 k (h .0), leb-true k 749 (h .1)))
+number-of (pos k) e = let h = and-eq-true-iff (leb 250 k) (leb k 749) .0 e in (refl, (leb-true 250 k (h .0), leb-true k 749 (h .1)))
 number-of (negsuc k) e = absurd (false≢true e)
 
 pub stays-number : (z : ℤ) (n : ℕ) → stays z n ≡ true → Number (movedNumber z n)

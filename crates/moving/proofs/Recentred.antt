@@ -1,13 +1,13 @@
 -- Centring a centred sign gives the same text again.
 use Prim.Native.Nat.{ℕ, _+_, _/_, _<_}
 use mathlib.Core.Path.{_≡_, refl, sym, ap, _∙_}
-use mathlib.Core.Bool.{Bool, true, false, _&&_}
+use mathlib.Core.Bool.{Bool, true, false, _&&_, and-eq-true-iff}
 use mathlib.Core.List.{List, map, map-map}
 use native.Mathlib.Omega.{arith}
 use lib.Dec.{lit<}
 use lib.IntN.{pos, subℕ}
 use lib.ListN.{length, getD, length-map}
-use Rattle.format.specs.Format.{choose}
+use Rattle.format.specs.Format.{choose, every}
 use Rattle.charset.specs.declared.Charset.{Charset}
 use Rattle.grammar.specs.Sign.{Spatial, Meaning, Valid, signText}
 use Rattle.token.specs.Refusal.{numberOutside}
@@ -22,8 +22,8 @@ use Rattle.bounds.specs.Boxes.{groupsOf}
 use Rattle.bounds.specs.Sizes.{firstUnsized, measured}
 use Rattle.bounds.specs.Centre.{all, boxOf, horizontal, vertical, serving, chosenBox, doubledOf}
 use Rattle.bounds.proofs.Measuring.{Measures, measures, measured-fine}
-use Rattle.moving.specs.Moves.{stays, allOf, xsOf, ysOf, movedSymbol, movedMeaning, movedSign, toMiddle, restated, centredBy, centredSign, centredText}
-use Rattle.moving.proofs.Numbers.{both, stays-along}
+use Rattle.moving.specs.Moves.{stays, xsOf, ysOf, movedSymbol, movedMeaning, movedSign, toMiddle, restated, centredBy, centredSign, centredText}
+use Rattle.moving.proofs.Numbers.{stays-along}
 use Rattle.moving.proofs.Signs.{all-first, coded-of, moved-valid}
 use Rattle.moving.proofs.Unmoved.{unmoved}
 use Rattle.moving.proofs.Along.{BoxAlong, serving-along}
@@ -61,7 +61,7 @@ module _ (sizes : List ℕ) (m : Meaning) (g : Groups) where
   abbrev centred : Meaning
   centred = movedMeaning (subℕ 500 dx) (subℕ 500 dy) (restated g m)
 
-  module _ (w : Within m) (is : Measures sizes (m .symbols) g) (h : allOf (stays (subℕ 500 dx)) (xsOf (restated g m)) ≡ true) (k : allOf (stays (subℕ 500 dy)) (ysOf (restated g m)) ≡ true) where
+  module _ (w : Within m) (is : Measures sizes (m .symbols) g) (h : every (stays (subℕ 500 dx)) (xsOf (restated g m)) ≡ true) (k : every (stays (subℕ 500 dy)) (ysOf (restated g m)) ≡ true) where
     abbrev after : Groups
     after = groupsOf sizes (centred .symbols)
 
@@ -82,10 +82,10 @@ module _ (sizes : List ℕ) (m : Meaning) (g : Groups) where
     within : Within centred
     within = record { prefix = w .prefix; symbols = omega (arith, as-many, w .symbols); valid = valid }
 
-    across : (stays (subℕ 500 dx) (restated g m .x) ≡ true) × (allOf (stays (subℕ 500 dx)) (map (λ s. s .x) (m .symbols)) ≡ true)
+    across : (stays (subℕ 500 dx) (restated g m .x) ≡ true) × (every (stays (subℕ 500 dx)) (map (λ s. s .x) (m .symbols)) ≡ true)
     across = all-first (stays (subℕ 500 dx)) (restated g m .x) (map (λ s. s .x) (m .symbols)) h
 
-    down : (stays (subℕ 500 dy) (restated g m .y) ≡ true) × (allOf (stays (subℕ 500 dy)) (map (λ s. s .y) (m .symbols)) ≡ true)
+    down : (stays (subℕ 500 dy) (restated g m .y) ≡ true) × (every (stays (subℕ 500 dy)) (map (λ s. s .y) (m .symbols)) ≡ true)
     down = all-first (stays (subℕ 500 dy)) (restated g m .y) (map (λ s. s .y) (m .symbols)) k
 
     box-along : (i : ℕ) → i < 3 → BoxAlong 500 dx 500 dy (chosenBox g i) (chosenBox after i)
@@ -135,8 +135,8 @@ centred-made sizes m w new e =
     let old = restated (d .0) m in
     let dx = toMiddle (doubledOf (d .0) .x) in
     let dy = toMiddle (doubledOf (d .0) .y) in
-    let c = check-done (allOf (stays dx) (xsOf old) && allOf (stays dy) (ysOf old)) numberOutside 0 (done (movedMeaning dx dy old)) (d .1 .1) in
-    let stay = both (allOf (stays dx) (xsOf old)) (allOf (stays dy) (ysOf old)) (c .0) in
+    let c = check-done (every (stays dx) (xsOf old) && every (stays dy) (ysOf old)) numberOutside 0 (done (movedMeaning dx dy old)) (d .1 .1) in
+    let stay = and-eq-true-iff (every (stays dx) (xsOf old)) (every (stays dy) (ysOf old)) .0 (c .0) in
     rw (same-done (c .1)) at (made sizes m (d .0) w is (stay .0) (stay .1))
 
 text-again : (set : Charset) (sizes other : List ℕ) (new : Meaning) → Made sizes new → signText set new ≡ other → centredText set other sizes ≡ done other

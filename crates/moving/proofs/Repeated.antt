@@ -7,6 +7,7 @@ use native.Mathlib.Omega.{arith}
 use lib.Dec.{lit<}
 use lib.IntN.{ℤ}
 use lib.ListN.{length}
+use Rattle.format.specs.Format.{every}
 use Rattle.charset.specs.declared.Charset.{Charset}
 use Rattle.grammar.specs.Sign.{Meaning, signText}
 use Rattle.token.specs.Refusal.{numberOutside}
@@ -18,14 +19,14 @@ use Rattle.reader.proofs.Limits.{sign-counted}
 use Rattle.bounds.specs.Sizes.{measured}
 use Rattle.bounds.specs.Centre.{doubledOf}
 use Rattle.bounds.proofs.Measuring.{measured-counted}
-use Rattle.moving.specs.Moves.{stays, allOf, xsOf, ysOf, movedMeaning, movedSign, toMiddle, restated, centredBy, centredSign, centredText}
+use Rattle.moving.specs.Moves.{stays, xsOf, ysOf, movedMeaning, movedSign, toMiddle, restated, centredBy, centredSign, centredText}
 use Rattle.moving.specs.MovingLaws.{centredIn}
 use Rattle.moving.proofs.Recentred.{again}
 
 pub moved-counted : (dx dy : ℤ) (m : Meaning) → Counted (movedSign dx dy m)
 unfolding movedSign
 moved-counted dx dy m =
-    check-counted (allOf (stays dx) (xsOf m) && allOf (stays dy) (ysOf m)) numberOutside 0 _ (lit< tt) (done-counted (movedMeaning dx dy m))
+    check-counted (every (stays dx) (xsOf m) && every (stays dy) (ysOf m)) numberOutside 0 _ (lit< tt) (done-counted (movedMeaning dx dy m))
 
 pub counted : (set : Charset) (sizes text : List ℕ) → Counted (centredText set text sizes)
 unfolding centredText centredSign

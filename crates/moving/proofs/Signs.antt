@@ -6,7 +6,7 @@ use mathlib.Core.List.{List, [], _∷_, _++_, map}
 use native.Mathlib.Omega.{arith}
 use lib.IntN.{ℤ}
 use lib.ListN.{length}
-use Rattle.format.specs.Format.{All}
+use Rattle.format.specs.Format.{All, every}
 use Rattle.format.proofs.Lists.{all-weaker}
 use Rattle.format.specs.Numeral.{Range}
 use Rattle.charset.specs.Tokens.{lastCode, lastWriting}
@@ -15,30 +15,29 @@ use Rattle.token.specs.Refusal.{numberOutside}
 use Rattle.token.specs.Result.{refusal, done}
 use Rattle.writer.specs.Arrays.{upto, at, symbolAt, meaningIn}
 use Rattle.writer.proofs.Upto.{map-upto}
-use Rattle.moving.specs.Moves.{stays, allOf, xsOf, ysOf, movedSymbol, movedMeaning, movedSign}
+use Rattle.moving.specs.Moves.{stays, xsOf, ysOf, movedSymbol, movedMeaning, movedSign}
 use Rattle.moving.specs.Inner.{movedOrZero, mapFirst, Coded}
 use Rattle.moving.proofs.Numbers.{stays-number, stays-moved}
 use Rattle.moving.proofs.Axes.{map-at}
 
-pub all-first : {A : Type 0} (p : A → Bool) (a : A) (l : List A) → allOf p (a ∷ l) ≡ true → (p a ≡ true) × (allOf p l ≡ true)
-unfolding allOf
+pub all-first : {A : Type 0} (p : A → Bool) (a : A) (l : List A) → every p (a ∷ l) ≡ true → (p a ≡ true) × (every p l ≡ true)
 all-first p a l e = go (p a) e
   where
-    go : (t : Bool) → t && allOf p l ≡ true → (t ≡ true) × (allOf p l ≡ true)
+    go : (t : Bool) → t && every p l ≡ true → (t ≡ true) × (every p l ≡ true)
     go true e = (refl, e)
     go false e = absurd (false≢true e)
 
 -- the sign moves where all its numbers stay, and is refused where one of either axis leaves
 module _ (dx dy : ℤ) (m : Meaning) where
-  pub sign-moves : allOf (stays dx) (xsOf m) ≡ true → allOf (stays dy) (ysOf m) ≡ true → movedSign dx dy m ≡ done (movedMeaning dx dy m)
+  pub sign-moves : every (stays dx) (xsOf m) ≡ true → every (stays dy) (ysOf m) ≡ true → movedSign dx dy m ≡ done (movedMeaning dx dy m)
   unfolding movedSign
   sign-moves h k = rw (h, k)
 
-  pub sign-leaves-x : allOf (stays dx) (xsOf m) ≡ false → movedSign dx dy m ≡ refusal numberOutside 0
+  pub sign-leaves-x : every (stays dx) (xsOf m) ≡ false → movedSign dx dy m ≡ refusal numberOutside 0
   unfolding movedSign
   sign-leaves-x h = rw h
 
-  pub sign-leaves-y : allOf (stays dx) (xsOf m) ≡ true → allOf (stays dy) (ysOf m) ≡ false → movedSign dx dy m ≡ refusal numberOutside 0
+  pub sign-leaves-y : every (stays dx) (xsOf m) ≡ true → every (stays dy) (ysOf m) ≡ false → movedSign dx dy m ≡ refusal numberOutside 0
   unfolding movedSign
   sign-leaves-y h k = rw (h, k)
 
@@ -52,7 +51,7 @@ coded-of m x y ok = record {
 
 -- symbols whose numbers stay
 module _ (dx dy : ℤ) where
-  symbols-valid : (l : List Spatial) → allOf (stays dx) (map (λ s. s .x) l) ≡ true → allOf (stays dy) (map (λ s. s .y) l) ≡ true
+  symbols-valid : (l : List Spatial) → every (stays dx) (map (λ s. s .x) l) ≡ true → every (stays dy) (map (λ s. s .y) l) ≡ true
       → All (λ s. Range 1 (lastCode lastWriting) (s .code)) l → All ValidSymbol (map (movedSymbol dx dy) l)
   symbols-valid [] h k ok = tt
   symbols-valid (s ∷ l) h k ok =
@@ -60,7 +59,7 @@ module _ (dx dy : ℤ) where
       let q = all-first (stays dy) (s .y) (map (λ s. s .y) l) k in
       ((ok .0, (stays-number dx (s .x) (p .0), stays-number dy (s .y) (q .0))), symbols-valid l (p .1) (q .1) (ok .1))
 
-  pub moved-valid : (m : Meaning) → Coded m → allOf (stays dx) (xsOf m) ≡ true → allOf (stays dy) (ysOf m) ≡ true → Valid (movedMeaning dx dy m)
+  pub moved-valid : (m : Meaning) → Coded m → every (stays dx) (xsOf m) ≡ true → every (stays dy) (ysOf m) ≡ true → Valid (movedMeaning dx dy m)
   moved-valid m c h k =
       let p = all-first (stays dx) (m .x) (map (λ s. s .x) (m .symbols)) h in
       let q = all-first (stays dy) (m .y) (map (λ s. s .y) (m .symbols)) k in
@@ -75,7 +74,7 @@ module _ (dx dy : ℤ) where
   abbrev orZero : Spatial → Spatial
   orZero s = record { code = s .code; x = movedOrZero dx (s .x); y = movedOrZero dy (s .y) }
 
-  symbols-moved : (l : List Spatial) → allOf (stays dx) (map (λ s. s .x) l) ≡ true → allOf (stays dy) (map (λ s. s .y) l) ≡ true
+  symbols-moved : (l : List Spatial) → every (stays dx) (map (λ s. s .x) l) ≡ true → every (stays dy) (map (λ s. s .y) l) ≡ true
       → map orZero l ≡ map (movedSymbol dx dy) l
   symbols-moved [] h k = refl
   symbols-moved (s ∷ l) h k =
@@ -99,7 +98,7 @@ module _ (dx dy : ℤ) (marker right bottom p n : ℕ) (prefix codes xs ys : Lis
   pub axis-y : (bottom ∷ upto (at ys) n) ≡ ysOf (meaningIn marker right bottom p n prefix codes xs ys)
   axis-y = ap (λ l. bottom ∷ l) (sym (map-upto (λ s. s .y) (symbolAt codes xs ys) n))
 
-  pub arrays-moved : n ≤ length xs → n ≤ length ys → allOf (stays dx) (xsOf before) ≡ true → allOf (stays dy) (ysOf before) ≡ true
+  pub arrays-moved : n ≤ length xs → n ≤ length ys → every (stays dx) (xsOf before) ≡ true → every (stays dy) (ysOf before) ≡ true
       → meaningIn marker (movedOrZero dx right) (movedOrZero dy bottom) p n prefix codes (mapFirst (movedOrZero dx) n xs) (mapFirst (movedOrZero dy) n ys)
       ≡ movedMeaning dx dy before
   arrays-moved hx hy h k =

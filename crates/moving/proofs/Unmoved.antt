@@ -5,13 +5,13 @@ use mathlib.Core.Bool.{true}
 use mathlib.Core.List.{List, [], _∷_, map}
 use borrow.Author.Tests.{le-leb}
 use lib.IntN.{pos, natAbs, +ℤ-idr}
-use Rattle.format.specs.Format.{All}
+use Rattle.format.specs.Format.{All, every}
 use Rattle.charset.specs.declared.Charset.{Charset}
 use Rattle.grammar.specs.Sign.{Spatial, Meaning, Number, Valid, ValidSymbol, signText}
 use Rattle.token.specs.Result.{done, onDone, andThen}
 use Rattle.reader.specs.Signs.{signOf}
 use Rattle.sign.proofs.Packed.{sign-within, sign-reads}
-use Rattle.moving.specs.Moves.{movedNumber, isNumber, stays, allOf, movedSymbol, movedSign, shiftedText}
+use Rattle.moving.specs.Moves.{movedNumber, isNumber, stays, movedSymbol, movedSign, shiftedText}
 use Rattle.moving.proofs.Signs.{sign-moves}
 
 number-stays : (n : ℕ) → Number n → stays (pos 0) n ≡ true
@@ -23,13 +23,11 @@ number-stays n h = ap isNumber (+ℤ-idr (pos n)) ∙ inside
 number-unmoved : (n : ℕ) → movedNumber (pos 0) n ≡ n
 number-unmoved n = ap natAbs (+ℤ-idr (pos n))
 
-numbers-stay : (of : Spatial → ℕ) → ((s : Spatial) → ValidSymbol s → Number (of s)) → (l : List Spatial) → All ValidSymbol l → allOf (stays (pos 0)) (map of l) ≡ true
-unfolding allOf
+numbers-stay : (of : Spatial → ℕ) → ((s : Spatial) → ValidSymbol s → Number (of s)) → (l : List Spatial) → All ValidSymbol l → every (stays (pos 0)) (map of l) ≡ true
 numbers-stay of number [] ok = refl
 numbers-stay of number (s ∷ l) ok = rw (number-stays (of s) (number s (ok .0)), numbers-stay of number l (ok .1))
 
-first-stays : (n : ℕ) (l : List ℕ) → Number n → allOf (stays (pos 0)) l ≡ true → allOf (stays (pos 0)) (n ∷ l) ≡ true
-unfolding allOf
+first-stays : (n : ℕ) (l : List ℕ) → Number n → every (stays (pos 0)) l ≡ true → every (stays (pos 0)) (n ∷ l) ≡ true
 first-stays n l h k = rw (number-stays n h, k)
 
 symbols-unmoved : (l : List Spatial) → map (movedSymbol (pos 0) (pos 0)) l ≡ l

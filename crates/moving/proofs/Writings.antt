@@ -5,6 +5,7 @@ use mathlib.Core.Bool.{Bool, true, false}
 use mathlib.Core.List.{List}
 use lib.IntN.{ℤ}
 use lib.ListN.{length}
+use Rattle.format.specs.Format.{every}
 use Rattle.charset.specs.declared.Charset.{Charset}
 use Rattle.grammar.specs.Sign.{Meaning, Valid, signText}
 use Rattle.token.specs.declared.Written.{Written}
@@ -12,7 +13,7 @@ use Rattle.token.specs.Result.{done, onDone}
 use Rattle.writer.proofs.Answers.{Answers, answers-refused}
 use Rattle.writer.specs.Arrays.{meaningIn}
 use Rattle.moving.specs.declared.writing.Moved.{Moved}
-use Rattle.moving.specs.Moves.{stays, allOf, xsOf, ysOf, movedMeaning, movedSign}
+use Rattle.moving.specs.Moves.{stays, xsOf, ysOf, movedMeaning, movedSign}
 use Rattle.moving.specs.Inner.{movedOrZero, movedAxis, Coded}
 use Rattle.moving.proofs.Axes.{map-length}
 use Rattle.moving.proofs.Signs.{sign-moves, sign-leaves-x, sign-leaves-y, moved-valid, axis-x, axis-y, arrays-moved}
@@ -24,11 +25,11 @@ module _ (dx dy : ℤ) (marker right bottom p n : ℕ) (prefix codes xs ys : Lis
   abbrev after : Meaning
   after = meaningIn marker (across .most) (down .most) p n prefix codes (across .values) (down .values)
 
-  stay-x : (t : Bool) → across .stay ≡ t → allOf (stays dx) (xsOf before) ≡ t
-  stay-x t e = ap (allOf (stays dx)) (sym (axis-x dx dy marker right bottom p n prefix codes xs ys)) ∙ sym (ap (λ k. k .stay) ea) ∙ e
+  stay-x : (t : Bool) → across .stay ≡ t → every (stays dx) (xsOf before) ≡ t
+  stay-x t e = ap (every (stays dx)) (sym (axis-x dx dy marker right bottom p n prefix codes xs ys)) ∙ sym (ap (λ k. k .stay) ea) ∙ e
 
-  stay-y : (t : Bool) → down .stay ≡ t → allOf (stays dy) (ysOf before) ≡ t
-  stay-y t e = ap (allOf (stays dy)) (sym (axis-y dx dy marker right bottom p n prefix codes xs ys)) ∙ sym (ap (λ k. k .stay) ed) ∙ e
+  stay-y : (t : Bool) → down .stay ≡ t → every (stays dy) (ysOf before) ≡ t
+  stay-y t e = ap (every (stays dy)) (sym (axis-y dx dy marker right bottom p n prefix codes xs ys)) ∙ sym (ap (λ k. k .stay) ed) ∙ e
 
   -- refused as 10
   module _ (set : Charset) (o : List ℕ) (r : Written) (e : r ≡ record { number = 10; place = 0; length = 0 }) where

@@ -3,14 +3,14 @@ use Prim.Native.Nat.{ℕ, zero, suc, _≤_, _^_}
 use mathlib.Core.Path.{_≡_}
 use mathlib.Core.List.{List, [], _∷_}
 use lib.IntN.{ℤ, subℕ}
-use Rattle.format.specs.Format.{choose, All}
+use Rattle.format.specs.Format.{choose, All, every}
 use Rattle.format.specs.Numeral.{Range}
 use Rattle.charset.specs.Tokens.{lastCode, lastWriting, lastLocation}
 use Rattle.grammar.specs.Sign.{Meaning}
 use Rattle.writer.specs.Arrays.{upto, at}
 use Rattle.moving.specs.declared.writing.Amount.{Amount}
 use Rattle.moving.specs.declared.writing.Moved.{Moved}
-use Rattle.moving.specs.Moves.{stays, movedNumber, allOf}
+use Rattle.moving.specs.Moves.{stays, movedNumber}
 
 -- the whole number that an amount stands for
 abbrev pub valueOf : Amount → ℤ
@@ -38,7 +38,7 @@ mapFirst f (suc n) (a ∷ l) = f a ∷ mapFirst f n l
 -- the maximum and the first n numbers of an axis
 abbrev pub movedAxis : ℤ → ℕ → ℕ → List ℕ → Moved
 movedAxis by most n values = record {
-  stay = allOf (stays by) (most ∷ upto (at values) n);
+  stay = every (stays by) (most ∷ upto (at values) n);
   most = movedOrZero by most;
   values = mapFirst (movedOrZero by) n values;
 }

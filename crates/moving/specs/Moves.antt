@@ -1,9 +1,10 @@
 -- Document 01, "Boxes, shifting, centring": what is written of a sign that is shifted, and of one that is centred.
 use Prim.Native.Nat.{ℕ, _/_}
-use mathlib.Core.Bool.{Bool, true, _&&_}
-use mathlib.Core.List.{List, [], _∷_, map}
+use mathlib.Core.Bool.{Bool, _&&_}
+use mathlib.Core.List.{List, _∷_, map}
 use lib.IntN.{ℤ, pos, _+ℤ_, subℕ, natAbs}
 use lib.Signed.{leZ}
+use Rattle.format.specs.Format.{every}
 use Rattle.charset.specs.declared.Charset.{Charset}
 use Rattle.grammar.specs.Sign.{Spatial, Meaning, signText}
 use Rattle.token.specs.Refusal.{numberOutside}
@@ -22,10 +23,6 @@ isNumber z = leZ (pos 250) z && leZ z (pos 749)
 
 abbrev pub stays : ℤ → ℕ → Bool
 stays by n = isNumber (pos n +ℤ by)
-
-unfoldable pub allOf : {A : Type 0} → (A → Bool) → List A → Bool
-allOf p [] = true
-allOf p (a ∷ l) = p a && allOf p l
 
 -- the numbers of each axis: the maximum's, and those of the symbols
 abbrev pub xsOf : Meaning → List ℕ
@@ -48,7 +45,7 @@ movedMeaning dx dy m = record {
 
 -- Every coordinate and the maximum are moved: refused as 10 if any number leaves 250 to 749.
 unfoldable pub movedSign : ℤ → ℤ → Meaning → Result Meaning
-movedSign dx dy m = check (allOf (stays dx) (xsOf m) && allOf (stays dy) (ysOf m)) numberOutside 0 (done (movedMeaning dx dy m))
+movedSign dx dy m = check (every (stays dx) (xsOf m) && every (stays dy) (ysOf m)) numberOutside 0 (done (movedMeaning dx dy m))
 
 -- SHIFTING: the text in the character set that was read
 unfoldable pub shiftedText : Charset → List ℕ → ℤ → ℤ → Result (List ℕ)

@@ -1,33 +1,22 @@
 -- Demand 3 over any form of call and anything that fills the list.
 use Prim.Native.Nat.{ℕ, _+_, _-_, _≤_}
 use mathlib.Core.Path.{_≡_, refl, sym, ap, _∙_}
-use mathlib.Core.List.{List, [], _∷_, _++_, map, Perm, Perm·foldr-eq, Perm·map}
-use mathlib.Core.Bool.{Bool, true, _&&_, and-assoc, and-comm, and-eq-true-iff, Bool-set}
+use mathlib.Core.List.{List, [], _∷_, _++_, map, Perm, Perm·map}
+use mathlib.Core.Bool.{Bool, true, and-eq-true-iff}
 use native.Mathlib.Omega.{arith}
 use borrow.Author.Tests.{ne-eqb}
 use lib.ListN.{length, drop, replicate}
 use lib.Seq.{drop-append-seam}
-use Rattle.format.specs.Format.{keep}
+use Rattle.format.specs.Format.{every, keep}
+use Rattle.format.proofs.Lists.{every-perm}
 use Rattle.token.specs.Result.{Result, refusal, done, onDone}
-use Rattle.token.proofs.Checks.{Counted, done-counted}
+use Rattle.token.proofs.Checks.{Counted}
 use Rattle.narrowing.specs.declared.Narrowed.{Narrowed}
 use Rattle.narrowing.specs.Narrowing.{answerOf, filled, listAfter}
 use Rattle.narrowing.specs.Run.{Ended, nextCount, answering, run, total, refusalOf, told}
 use Rattle.narrowing.proofs.Filled.{filled-whole, filled-again}
 use Rattle.narrowing.proofs.Keeping.{keep-length, keep-keep, keep-every}
-use Rattle.narrowing.specs.Form.{every, asks, left, plain, Form, FormLaws, Fill, FillLaws, runOn, leftOf, Demand3}
-
-pub onDone-counted : {A C : Type 0} (to : A → C) (r : Result A) → Counted r → Counted (onDone to r)
-onDone-counted to (refusal number place) c n p e = c n p (cc)
-onDone-counted to (done a) c n p e = done-counted (to a) n p e
-
-pub every-perm : {A : Type 0} (test : A → Bool) (l m : List A) → Perm l m → every test l ≡ every test m
-unfolding every
-every-perm {A} test l m p =
-    Perm·foldr-eq Bool-set (λ (a : A) (b : Bool). test a && b)
-    (λ x y b. sym (and-assoc (test x) (test y) b) ∙ ap (λ t. t && b) (and-comm (test x) (test y)) ∙ and-assoc (test y) (test x) b)
-    p
-    true
+use Rattle.narrowing.specs.Form.{asks, left, plain, Form, FormLaws, Fill, FillLaws, runOn, leftOf, Demand3}
 
 -- ONE CALL, by a query on good entries k
 abbrev answer : Result (ℕ → Bool) → List ℕ → Narrowed
@@ -67,11 +56,11 @@ module _ {Q : Type 0} (says : Q → Result (ℕ → Bool)) where
   endedSo n rest qs k = record { list = filled n (left says k qs) rest; count = length (left says k qs); answers = trace qs k }
 
   left-none : (k : List ℕ) → left says k [] ≡ k
-  unfolding left every
+  unfolding left
   left-none k = keep-every k
 
   pub left-more : (q : Q) (qs : List Q) (k : List ℕ) → left says (keep (asks (says q)) k) qs ≡ left says k (q ∷ qs)
-  unfolding left every
+  unfolding left
   left-more q qs k = keep-keep (asks (says q)) (λ e. every (λ q. asks (says q) e) qs) k
 
   left-perm : (k : List ℕ) (qs qs′ : List Q) → Perm qs qs′ → left says k qs ≡ left says k qs′
@@ -94,7 +83,7 @@ module _ {B Q : Type 0} (f : Form B Q) (l : FormLaws f) (b : B) where
   module _ (n : ℕ) (rest : List ℕ) where
     whole : (qs : List Q) (k : List ℕ) → every (f .fits b) qs ≡ true → f .Good b k → length k ≤ n
         → run (f .call b) qs (filled n k rest) (length k) ≡ endedSo (f .says b) n rest qs k
-    unfolding run trace every filled
+    unfolding run trace filled
     whole [] k a g h = rw (left-none (f .says b) k)
     whole (q ∷ qs) k a g h =
         let w = and-eq-true-iff (f .fits b q) (every (f .fits b) qs) .0 a in

@@ -2,18 +2,14 @@
 -- B is what a dictionary reads as, T its text, Q a query with all that its call takes beside the list.
 use Prim.Native.Nat.{ℕ, _+_, _<_}
 use mathlib.Core.Path.{_≡_}
-use mathlib.Core.List.{List, _++_, map, foldr, Perm}
-use mathlib.Core.Bool.{Bool, true, _&&_}
+use mathlib.Core.List.{List, _++_, map, Perm}
+use mathlib.Core.Bool.{Bool, true}
 use lib.ListN.{length, drop}
-use Rattle.format.specs.Format.{keep}
+use Rattle.format.specs.Format.{every, keep}
 use Rattle.token.specs.Result.{Result, refusal, done, onDone}
 use Rattle.narrowing.specs.declared.Narrowed.{Narrowed}
 use Rattle.narrowing.specs.Narrowing.{filled, narrowing}
 use Rattle.narrowing.specs.Run.{Ended, run, total, refusalOf, told}
-
--- every element passes a test
-unfoldable pub every : {A : Type 0} → (A → Bool) → List A → Bool
-every {A} test l = foldr (λ (a : A) (b : Bool). test a && b) true l
 
 -- what a query asks of an entry: nothing where it is refused
 abbrev pub asks : Result (ℕ → Bool) → ℕ → Bool

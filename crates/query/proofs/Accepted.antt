@@ -1,15 +1,14 @@
 -- A query that was accepted: its items are valid and few enough, so that its words have room.
 use Prim.Native.Nat.{ℕ, _≤_}
-use mathlib.Core.Path.{_≡_, ap}
+use mathlib.Core.Path.{_≡_}
 use mathlib.Core.List.{List, [], _∷_, map}
 use mathlib.Core.Logic.{_⊎_, inl, inr}
 use mathlib.Core.Option.{Option, none, some}
 use lib.ListN.{length}
 use Rattle.format.specs.Format.{All, Any}
-use Rattle.format.specs.Places.{Outcome, fine, refused, endsShort}
-use Rattle.token.specs.Refusal.{textWrong, textShort}
 use Rattle.token.specs.Result.{done, ofOutcome}
-use Rattle.token.proofs.Checks.{refusal-done, andThen-done}
+use Rattle.token.proofs.Checks.{andThen-done}
+use Rattle.token.proofs.Results.{outcome-done}
 use Rattle.querygrammar.specs.Query.{orAny, item, signboxItem, head, query, ItemText, SoughtText, HeadText, QueryText, Query, openOf, itemOf, soughtOf, prefixOf, meaning, itemsOf, ValidItem, ValidSought, ValidQuery}
 use Rattle.querygrammar.specs.QueryLaws.{readQuery}
 use Rattle.querygrammar.proofs.QueryLaws.{query-laws}
@@ -47,18 +46,13 @@ prefix-valid (some (inr p)) ok = (item-valid (p .0 .0) (ok .0 .0), items-valid (
 query-valid : (t : QueryText) → query .Valid t → ValidQuery (meaning t)
 query-valid t ok = record { prefix = prefix-valid (t .0) (ok .0); items = all-valid (t .1 .0) (ok .1 .0) }
 
-outcome-fine : {A : Type 0} (size : ℕ) (o : Outcome A) (a : A) → ofOutcome size o ≡ done a → o ≡ fine a
-outcome-fine size (fine b) a e = let z : b ≡ a = cc in ap fine z
-outcome-fine size (refused p) a e = refusal-done textWrong p e
-outcome-fine size endsShort a e = refusal-done textShort size e
-
 pub query-accepted : (text : List ℕ) (q : Query) → queryOf text ≡ done q → Accepted q
 unfolding queryOf
 query-accepted text q e =
     let d = andThen-done (ofOutcome (length text) (readQuery text)) (λ t. limited (meaning t) (firstReversed (spotsOf t))) e in
     let t = d .0 in
     let p = limited-passed (meaning t) q (firstReversed (spotsOf t)) (d .1 .1) in
-    let ok = query-laws .writes text t (outcome-fine (length text) (readQuery text) t (d .1 .0)) .0 in
+    let ok = query-laws .writes text t (outcome-done (length text) (readQuery text) t (d .1 .0)) .0 in
     rw (← p .same)
     (record {
       valid = query-valid t ok;

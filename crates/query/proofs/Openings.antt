@@ -11,15 +11,16 @@ use native.Mathlib.Omega.{arith}
 use borrow.Author.Tests.{ltb-true}
 use Rattle.format.specs.Format.{Answer, value, other, wrong, short, choose, orElse}
 use Rattle.format.specs.Located.{wrongAt, shortHere, locate, andThen, onFound}
-use Rattle.format.proofs.At.{delimited-got, cut-reads}
-use Rattle.format.proofs.Ends.{optional-there, optional-none}
+use Rattle.format.proofs.At.{delimited-got, cut-reads, either-begun, either-passed}
+use Rattle.format.proofs.Ends.{optional-there, optional-none, optional-open, optional-over}
+use Rattle.format.proofs.Begun.{value-other}
 use Rattle.charset.specs.Bytes.{byteOf, byte, after}
-use Rattle.charset.proofs.Units.{byte-delimited}
+use Rattle.charset.proofs.Units.{byte-delimited, after-other}
+use Rattle.charset.proofs.FixedByte.{after-at, after-begun, byte-wrong}
 use Rattle.token.specs.declared.reading.Token.{Token}
 use Rattle.token.specs.declared.reading.Token.the-variants.{Value, Wrong, Short}
 use Rattle.token.specs.Token.{tokenAt}
 use Rattle.querygrammar.specs.Query.{prefixItems as prefixFormat, head, afterQ, query}
-use Rattle.querygrammar.proofs.Begun.{after-at, after-begun, after-other, byte-wrong, either-begun, either-passed, optional-open, optional-over}
 use Rattle.queryitem.proofs.Chains.{byte-there, wrong-token, short-token}
 use Rattle.query.specs.Inner.{Asks, OpensWith, Prefixed}
 
@@ -79,14 +80,11 @@ module _ (s : List ℕ) (h : 1 ≤ length s) where
         is = (
           a,
           optional-there head s 1 (inl a) 2
-              (either-begun (byte 84) (after 65 prefixFormat) s 1 (λ z. value-not (sym (g .reads) ∙ z)) ∙ ap (onFound inl) l),
+              (either-begun (byte 84) (after 65 prefixFormat) s 1 (λ z. value-other (sym (g .reads) ∙ z)) ∙ ap (onFound inl) l),
           g .room,
         );
         most = omega arith;
       }
-    where
-      value-not : {v : ℕ} {r : List ℕ} → value v r ≡ other → ⊥
-      value-not e = let z : _≡_ {A = ℕ} 0 1 = cc in omega arith
 
   module _ (p : ℕ) (t : Token) (e : t ≡ tokenAt (byte 84) s 1) (q : t ≡ Wrong p) where
     no-t : byte 84 .read (drop 1 s) ≡ other

@@ -1,11 +1,11 @@
 -- Words that are put one after the other, and the limits.
 use Prim.Native.Nat.{ℕ, zero, suc, _+_, _≤_, _<_}
-use mathlib.Core.List.{List, [], _∷_, _++_, append-assoc, append-nil, map}
+use mathlib.Core.List.{List, [], _∷_, _++_, map}
 use mathlib.Core.Path.{_≡_, refl, sym, ap, _∙_}
 use mathlib.Core.Bool.{Bool, true, false}
 use mathlib.Core.Option.{Option, none, some}
 use lib.Dec.{leb}
-use lib.ListN.{length, set, length-append, length-map}
+use lib.ListN.{length, set, length-map}
 use lib.Seq.{sets}
 use native.Mathlib.Omega.{arith}
 use borrow.Author.Tests.{eq-eqb, ne-eqb, le-leb, lt-leb, leb-true}
@@ -13,24 +13,17 @@ use Rattle.token.specs.Refusal.{prefixLong, signboxLong, rangeReversed}
 use Rattle.token.specs.Result.{Result, refusal, done, check}
 use Rattle.token.proofs.Checks.{refusal-done, check-failed, check-done}
 use Rattle.token.specs.Padded.{padded, zeros}
-use Rattle.reader.proofs.Filling.{padded-none, padded-put}
+use Rattle.token.proofs.PaddedLists.{padded-none, sets-padded, sets-append}
 use Rattle.querygrammar.specs.Query.{Query, itemsOf, kindOf}
 use Rattle.queryitem.specs.Numbers.{bareItem}
 use Rattle.queryitem.specs.Words.{wordCount, rowsWords, wordsOf}
 use Rattle.queryitem.proofs.Rows.{rows-size}
 use Rattle.querypart.specs.Inner.{orZero}
-use Rattle.querypart.proofs.Walks.{sets-append}
 use Rattle.query.specs.declared.words.Head.{Head}
 use Rattle.query.specs.Reading.{inOrder, limited}
 use Rattle.query.specs.Inner.{headOf, ordered, limits, LimitedInto, afterRows}
 
 -- THE WORDS
-
-sets-padded : (k : ℕ) (vs l : List ℕ) → sets (padded k l) (length l) vs ≡ padded k (l ++ vs)
-sets-padded k [] l = ap (padded k) (sym (append-nil l))
-sets-padded k (v ∷ vs) l =
-    let e : suc (length l) ≡ length (l ++ (v ∷ [])) = omega (arith, length-append l (v ∷ [])) in
-    (λ i. sets (padded-put k l v i) (e i) vs) ∙ sets-padded k vs (l ++ (v ∷ [])) ∙ ap (padded k) (append-assoc l (v ∷ []) vs)
 
 -- rows after four words that are not put yet, and then these
 head-put : (a b c d : ℕ) (rows : List ℕ) → sets (sets (zeros wordCount) 4 rows) 0 (a ∷ b ∷ c ∷ d ∷ []) ≡ padded wordCount (a ∷ b ∷ c ∷ d ∷ rows)

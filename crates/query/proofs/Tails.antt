@@ -13,6 +13,7 @@ use Rattle.format.specs.Located.{Located, found, wrongAt, shortHere, locate, an
 use Rattle.format.proofs.Lawful.{Lawful}
 use Rattle.format.proofs.At.{got, sequence-at-got}
 use Rattle.format.proofs.Ends.{onFine, ended-on}
+use Rattle.format.proofs.Reading.{same-fine}
 use Rattle.token.specs.declared.reading.Token.{Token}
 use Rattle.token.specs.declared.reading.Token.the-variants.{Value, Wrong, Short}
 use Rattle.token.specs.Refusal.{textWrong, textShort}
@@ -137,11 +138,8 @@ module _ (s : List ℕ) (at kind before earlier : ℕ) (inside : at ≤ length s
           → TailIn s at kind before earlier o h q
       tail-as h q a x is put = record {
         is = is ∙ rw x refl;
-        holds = λ b y n. let same : a ≡ b = fine-same (sym x ∙ y) in rw same at (put n);
+        holds = λ b y n. let same : a ≡ b = same-fine (sym x ∙ y) in rw same at (put n);
       }
-        where
-          fine-same : {A : Type 0} {a b : A} → fine a ≡ fine b → a ≡ b
-          fine-same e = cc
 
       pub tail-fine : (u now : ℕ) (h : Head) (q : List ℕ) → t ≡ Value u → now ≡ orEarlier earlier (r .reversed) → LimitedInto kind before (r .count) u now p h q
           → TailIn s at kind before earlier o h q

@@ -7,12 +7,14 @@ use mathlib.Core.Option.{Option, none, some}
 use native.Mathlib.Omega.{arith}
 use Rattle.format.specs.Format.{value, other, Format, first, optional, many, Absent, FollowAll, atomic, atStart}
 use Rattle.format.proofs.Delimited.{Delimited}
+use Rattle.format.proofs.Begun.{absent-other}
 use Rattle.charset.specs.Bytes.{byte, digit, digits, after}
 use Rattle.charset.specs.Tokens.{fswWith, fswNumber}
+use Rattle.charset.proofs.FixedByte.{byte-other, after-byte}
 use Rattle.grammar.specs.Sign.{point}
-use Rattle.grammar.proofs.Sign.{all-follow, absent-other, sequence-other}
+use Rattle.grammar.proofs.Sign.{all-follow, sequence-other}
 use Rattle.querygrammar.specs.Query.{keyTail, rangeTail, ItemText, item, SoughtText, signboxItemWith, prefixItems, HeadText, head, laterFigures, Figures, figures, variance, tailWith, QueryText, queryWith}
-use Rattle.querygrammar.proofs.Query.{byte-other, after-byte, either-other, letter-digit, digit-other, item-delimited}
+use Rattle.querygrammar.proofs.Query.{either-other, letter-digit, digit-other, item-delimited}
 
 -- after the head and after each item come an item, V or the end
 abbrev pub Later : List ℕ → Type 0

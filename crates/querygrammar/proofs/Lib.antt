@@ -1,4 +1,3 @@
-pub mod Begun
 pub mod Query
 pub mod Follow
 pub mod ExactQuery

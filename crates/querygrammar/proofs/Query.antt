@@ -1,42 +1,27 @@
 -- The query is lawful.
-use Prim.Native.Nat.{ℕ, _+_, _-_, _≤_, _<_}
+use Prim.Native.Nat.{ℕ, _≤_, _<_}
 use mathlib.Core.List.{List, [], _∷_, _++_}
 use mathlib.Core.Path.{_≡_, refl, ap, _∙_}
-use mathlib.Core.Bool.{Bool, true, false}
-use lib.Dec.{ltb}
-use lib.ListN.{length-append}
 use native.Mathlib.Omega.{arith}
-use borrow.Author.Tests.{ltb-true, ltb-false, lt-ltb, le-ltb}
-use Rattle.format.specs.Format.{other, Format, first, second, optional, many, either, orElse}
+use borrow.Author.Tests.{lt-ltb, le-ltb}
+use Rattle.format.specs.Format.{other, Format, optional, many, either, orElse}
 use Rattle.format.proofs.Lawful.{Lawful}
 use Rattle.format.proofs.Sequence.{sequence-lawful}
 use Rattle.format.proofs.Parts.{optional-lawful, either-lawful}
 use Rattle.format.proofs.Many.{many-lawful}
-use Rattle.format.proofs.Unit.{unit-below, unit-above}
-use Rattle.format.proofs.Delimited.{Delimited, Strict, sequence-strict, either-strict, sequence-firm, optional-firm, solid}
+use Rattle.format.proofs.Unit.{unit-above}
+use Rattle.format.proofs.Delimited.{Delimited, Strict, sequence-strict, either-strict, optional-firm, solid}
+use Rattle.format.proofs.Open.{Open, delimited-open, sequence-open}
 use Rattle.charset.specs.Bytes.{digitOf, byteOf, digitByte, byte, digit, after}
 use Rattle.charset.specs.Tokens.{fsw}
 use Rattle.charset.proofs.Units.{byte-strict, byte-delimited, digit-strict, digit-delimited, after-strict, after-lawful}
 use Rattle.charset.proofs.Keys.{base-strict}
 use Rattle.charset.proofs.Sets.{fsw-lawful}
+use Rattle.charset.proofs.FixedByte.{after-byte}
 use Rattle.grammar.proofs.Sign.{point-fixed}
 use Rattle.querygrammar.specs.Query.{queryBase, orAny, openDigits, keyTail, rangeEnd, rangeTail, item, coordinate, signboxItem, someItems, prefixItems, head, laterFigures, figures, variance, tail, afterQ, query}
-use Rattle.format.proofs.Loop.{Open}
-use Rattle.querygrammar.proofs.Begun.{after-other}
 
 -- BYTES THAT ARE NOT THE ONE ASKED FOR
-
-byte-go : (b x : ℕ) (t : List ℕ) → (x ≡ b → ⊥) → (p : Bool) → ltb x b ≡ p → byte b .read (x ∷ t) ≡ other
-byte-go b x t n true e = unit-below 1 (byteOf λ a. a) (λ a. a ∷ []) b b (x ∷ []) t refl (ltb-true x b e)
-byte-go b x t n false e =
-    let k : b ≤ x = ltb-false x b e in
-    unit-above 1 (byteOf λ a. a) (λ a. a ∷ []) b b (x ∷ []) t refl k (omega (arith, n))
-
-pub byte-other : (b x : ℕ) (t : List ℕ) → (x ≡ b → ⊥) → byte b .read (x ∷ t) ≡ other
-byte-other b x t n = byte-go b x t n (ltb x b) refl
-
-pub after-byte : {A : Type 0} (b : ℕ) (f : Format A) (x : ℕ) (t : List ℕ) → (x ≡ b → ⊥) → after b f .read (x ∷ t) ≡ other
-after-byte b f x t n = after-other b f (x ∷ t) (byte-other b x t n)
 
 pub either-other : {A B : Type 0} (f : Format A) (g : Format B) (text : List ℕ) → f .read text ≡ other → g .read text ≡ other → either f g .read text ≡ other
 either-other f g text p q = ap (λ r. orElse r (g .read text)) p ∙ ap (orElse other) q
@@ -79,9 +64,6 @@ open-strict = sequence-strict 1 (orAny 5) (λ f. orAny 15) (any-strict 5 (omega 
 key-strict : Strict 1 keyTail
 key-strict = sequence-strict 1 queryBase (λ b. openDigits) query-base-strict λ b ok. open-strict
 
-pub key-delimited : Delimited 1 keyTail
-key-delimited = key-strict .delimited
-
 range-strict : Strict 1 rangeTail
 range-strict = sequence-strict 1 queryBase (λ b. rangeEnd) query-base-strict λ b ok. after-strict 116 queryBase query-base-strict
 
@@ -100,12 +82,9 @@ pub coordinate-delimited : Delimited 1 coordinate
 coordinate-delimited = point-fixed fsw fsw-lawful .delimited
 
 pub signbox-item-open : Open 1 signboxItem
-signbox-item-open = record {
-  lawful = sequence-lawful 1 item (λ i. optional coordinate) (item-delimited .lawful) λ i ok. optional-lawful 1 coordinate (coordinate-delimited .lawful);
-  solid = λ v ok. omega (arith, length-append (item .write (v .0)) (optional coordinate .write (v .1)), solid 1 item item-delimited (v .0) (ok .0));
-  empty = ap (λ r. first r λ a rest. second (λ b. (a, b)) rest (optional coordinate .read rest)) (item-delimited .empty);
-  firm = sequence-firm 1 item (λ i. optional coordinate) item-delimited λ i ok. optional-firm coordinate (coordinate-delimited .firm);
-}
+signbox-item-open =
+    sequence-open 1 item (λ i. optional coordinate) (delimited-open 1 item item-delimited) (λ i ok. optional-firm coordinate (coordinate-delimited .firm)) λ i ok.
+    optional-lawful 1 coordinate (coordinate-delimited .lawful)
 
 pub signbox-items-lawful : Lawful 1 (many signboxItem)
 signbox-items-lawful = many-lawful 1 signboxItem (signbox-item-open .lawful) (signbox-item-open .solid)

@@ -15,12 +15,13 @@ use Rattle.charset.proofs.Coding.{byte-exact}
 use Rattle.charset.proofs.Keys.{number-strict}
 use Rattle.charset.proofs.Numbers.{before}
 use Rattle.charset.proofs.Units.{after-inverse}
+use Rattle.charset.proofs.FixedByte.{after-byte}
 use Rattle.grammar.specs.SignLaws.{PointNumber}
 use Rattle.grammar.proofs.Sign.{sequence-other}
 use Rattle.grammar.proofs.SignPlaces.{point-numbered}
 use Rattle.querygrammar.specs.Query.{item, coordinate, signboxItemWith, signboxItem, head, figures, variance, tailWith, tail, afterQWith, afterQ, queryWith, query}
 use Rattle.querygrammar.specs.QueryLaws.{QueryNumber}
-use Rattle.querygrammar.proofs.Query.{after-byte, item-strict, item-delimited, signbox-item-open, query-lawful}
+use Rattle.querygrammar.proofs.Query.{item-strict, item-delimited, signbox-item-open, query-lawful}
 use Rattle.querygrammar.proofs.Follow.{Later, item-not, item-later, items-later, item-follow, head-follow, exact-not}
 use Rattle.querygrammar.proofs.ExactQuery.{exactPoint, point-delimited, exactItem, item-exact, item-solid, items-exact, head-exact, variance-exact, tail-exact, after-q-exact, query-exact, exact-ready}
 

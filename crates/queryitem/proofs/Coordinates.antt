@@ -1,5 +1,5 @@
 -- The coordinate of an item, and items with one: one law for each return.
-use Prim.Native.Nat.{ℕ, _+_, _-_, _≤_, _<_}
+use Prim.Native.Nat.{ℕ, _+_, _≤_, _<_}
 use mathlib.Core.List.{List, [], _∷_}
 use mathlib.Core.Path.{_≡_, refl, sym, ap, _∙_}
 use mathlib.Core.Logic.{inl, inr}
@@ -11,7 +11,7 @@ use denote.Enum.Declared.{tagOf}
 use Rattle.format.specs.Format.{other, Format, optional}
 use Rattle.format.specs.Located.{Located, found, wrongAt, shortHere, locate, andThen, onFound}
 use Rattle.format.proofs.At.{delimited-got, sequence-at, cut-reads}
-use Rattle.format.proofs.Ends.{optional-begun, optional-none, optional-bad, optional-cut}
+use Rattle.format.proofs.Ends.{optional-begun, optional-none, optional-bad, optional-cut, optional-over}
 use Rattle.charset.specs.Tokens.{fsw}
 use Rattle.charset.proofs.Sets.{fsw-lawful}
 use Rattle.token.specs.declared.reading.Token.{Token}
@@ -20,8 +20,8 @@ use Rattle.token.specs.Token.{tokenAt}
 use Rattle.token.proofs.Told.{Fails, Told, told-at}
 use Rattle.querygrammar.specs.Query.{ItemText, item, coordinate, SoughtText, signboxItem, soughtOf}
 use Rattle.format.proofs.At.{Strays, here, later}
-use Rattle.format.proofs.Loop.{delimited-open, strays}
-use Rattle.querygrammar.proofs.Begun.{optional-over}
+use Rattle.format.proofs.Loop.{strays}
+use Rattle.format.proofs.Open.{delimited-open}
 use Rattle.querygrammar.proofs.Query.{item-delimited, coordinate-delimited}
 use Rattle.queryitem.specs.declared.reading.Numbers.{Numbers}
 use Rattle.queryitem.specs.declared.reading.Piece.{Piece}

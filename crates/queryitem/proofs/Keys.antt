@@ -1,5 +1,5 @@
 -- Open digits, keys, ranges and items: one law for each return.
-use Prim.Native.Nat.{ℕ, _+_, _-_, _≤_}
+use Prim.Native.Nat.{ℕ, _+_, _≤_}
 use mathlib.Core.List.{List, [], _∷_}
 use mathlib.Core.Path.{_≡_, refl, sym, ap, _∙_}
 use mathlib.Core.Logic.{_⊎_, inl, inr}
@@ -12,9 +12,10 @@ use denote.Enum.Declared.{tagOf}
 use Rattle.format.specs.Format.{Format}
 use Rattle.format.specs.Located.{Located, found, wrongAt, shortHere, locate, andThen, onFound}
 use Rattle.format.proofs.Delimited.{Delimited}
-use Rattle.format.proofs.At.{fixed-got, delimited-got, sequence-at, either-first}
+use Rattle.format.proofs.At.{fixed-got, delimited-got, sequence-at, either-first, either-begun, either-passed}
 use Rattle.charset.specs.Bytes.{byte, digit, after}
-use Rattle.charset.proofs.Units.{byte-delimited, digit-delimited, after-delimited}
+use Rattle.charset.proofs.Units.{byte-delimited, digit-delimited, after-other}
+use Rattle.charset.proofs.FixedByte.{after-at, after-begun, byte-wrong, digit-wrong}
 use Rattle.token.specs.declared.reading.Token.{Token}
 use Rattle.token.specs.declared.reading.Token.the-variants as token
 use Rattle.token.specs.Token.{told, tokenAt}
@@ -22,8 +23,7 @@ use Rattle.token.proofs.reading.Token.{the-type}
 use Rattle.token.proofs.Told.{Fails, Told}
 use Rattle.token.proofs.Keys.{not-wrong}
 use Rattle.querygrammar.specs.Query.{queryBase, orAny, openDigits, keyTail, rangeEnd, rangeTail, ItemText, item, keyItem, rangeItem, openOf, itemOf}
-use Rattle.querygrammar.proofs.Begun.{after-at, after-begun, after-other, byte-wrong, digit-wrong, either-begun, either-passed}
-use Rattle.querygrammar.proofs.Query.{query-base-delimited, any-delimited, key-delimited}
+use Rattle.querygrammar.proofs.Query.{query-base-delimited, any-delimited}
 use Rattle.queryitem.specs.declared.reading.Numbers.{Numbers}
 use Rattle.queryitem.specs.declared.reading.Piece.{Piece}
 use Rattle.queryitem.specs.declared.reading.Piece.the-variants.{Found, Wrong, Short}
@@ -61,7 +61,7 @@ module _ (top : ℕ) (k : top ≤ 15) (s : List ℕ) (at : ℕ) where
   unfolding tokenAt
   open-digit t e h =
       e ∙ left-told (locate (digit 0 top) s at)
-      ∙ open-as inl (locate (digit 0 top) s at) (either-first 1 (digit 0 top) (byte 117) d s at (λ z. not-wrong t at h (e ∙ ap told z)))
+      ∙ open-as inl (locate (digit 0 top) s at) (either-first (digit 0 top) (byte 117) s at (λ z. not-wrong t at h (e ∙ ap told z)))
 
   module _ (p : ℕ) (t : Token) (e : t ≡ tokenAt (digit 0 top) s at) (q : t ≡ token.Wrong p) where
     open-letter : locate (orAny top) s at ≡ onFound inr (locate (byte 117) s at)
@@ -228,7 +228,7 @@ module _ (s : List ℕ) (at : ℕ) where
   item-short t e v =
       let l : locate (after 83 keyTail) s at ≡ shortHere = after-at 83 keyTail s at ∙ ap (λ l. andThen l λ a i. locate keyTail s i) (short-token (byte 83) s at t e v) in
       sym (ap (λ l. toldPiece (onFound itemNumbers l))
-      (either-first 1 (after 83 keyTail) (after 82 rangeTail) (after-delimited 83 keyTail key-delimited) s at (λ z. cut-not at (sym l ∙ z))
+      (either-first (after 83 keyTail) (after 82 rangeTail) s at (λ z. cut-not at (sym l ∙ z))
       ∙ ap (onFound inl) l))
     where
       cut-not : (p : ℕ) → _≡_ {A = Located (ℕ × ((ℕ ⊎ ℕ) × (ℕ ⊎ ℕ)))} shortHere (wrongAt p) → ⊥

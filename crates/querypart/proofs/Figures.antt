@@ -10,16 +10,17 @@ use Rattle.format.specs.Format.{value, other, short, Format, first, second, seq
 use Rattle.format.specs.Places.{Outcome, fine, refused, endsShort}
 use Rattle.format.specs.Located.{Located, found, wrongAt, shortHere, locate, andThen, onFound, ended}
 use Rattle.format.proofs.At.{delimited-got, sequence-at, cut-reads}
-use Rattle.format.proofs.Ends.{onFine, ended-on, optional-none, optional-cut}
+use Rattle.format.proofs.Ends.{onFine, ended-on, optional-none, optional-cut, optional-open, optional-over}
+use Rattle.format.proofs.Begun.{sequence-begun, value-other}
 use Rattle.charset.specs.Bytes.{byte, digit, after}
-use Rattle.charset.proofs.Units.{byte-delimited}
+use Rattle.charset.proofs.Units.{byte-delimited, after-other}
+use Rattle.charset.proofs.FixedByte.{after-at, after-begun, byte-wrong, digit-wrong}
 use Rattle.grammar.proofs.Sign.{sequence-other}
 use Rattle.token.specs.declared.reading.Token.{Token}
 use Rattle.token.specs.declared.reading.Token.the-variants.{Value, Wrong}
 use Rattle.token.specs.Token.{told, tokenAt}
 use Rattle.token.proofs.Told.{Fails, Told, told-at}
 use Rattle.querygrammar.specs.Query.{laterFigures, Figures, figures, varianceOf}
-use Rattle.querygrammar.proofs.Begun.{after-at, after-begun, after-other, sequence-begun, byte-wrong, digit-wrong, optional-open, optional-over}
 use Rattle.querygrammar.proofs.Query.{figure-delimited}
 use Rattle.queryitem.proofs.Chains.{Carries, carries, value-fails, byte-there}
 use Rattle.querypart.specs.Inner.{toldEnd, figuresEnd, varianceEnd}
@@ -146,13 +147,10 @@ module _ (s : List ℕ) where
         third-fails t h e q = more-fails figure (at + 2) two figure t (figure-starts (at + 2)) h e q ∙ sym after-second
 
         module _ (c : ℕ) (kc : Told 1 figure s (at + 2) c) where
-          value-not : {v : ℕ} {r : List ℕ} → value v r ≡ other → ⊥
-          value-not e = let z : _≡_ {A = ℕ} 0 1 = cc in omega arith
-
           after-third : figuresEnd s at ≡ toldEnd (λ c. two (some c)) (ended 1 (length s) (found c (at + 3)))
           after-third =
               after-second
-              ∙ ap (toldEnd two) (more-begun figure (at + 2) (let r = kc .room in omega arith) (λ e. value-not (sym (figure-reads (at + 2) c kc) ∙ e)))
+              ∙ ap (toldEnd two) (more-begun figure (at + 2) (let r = kc .room in omega arith) (λ e. value-other (sym (figure-reads (at + 2) c kc) ∙ e)))
               ∙ told-on two some (endOf figure (at + 2))
               ∙ ap (λ l. toldEnd (λ c. two (some c)) (ended 1 (length s) l)) (kc .is ∙ ap (found c) (omega arith))
 

@@ -17,8 +17,11 @@ use Rattle.format.proofs.Loop.{Walk, walk-start}
 use Rattle.token.specs.Refusal.{textWrong, textShort}
 use Rattle.token.specs.Result.{refusal, done, ofLocated}
 use Rattle.token.proofs.Checks.{refusal-done}
+use Rattle.token.proofs.PaddedLists.{sets-append}
+use Rattle.token.proofs.Results.{same-done}
 use Rattle.querygrammar.specs.Query.{Item, keyItem, Sought, ItemText, item, openOf, itemOf}
-use Rattle.format.proofs.Loop.{Open, delimited-open, open-got, open-on, open-stop, open-end, open-bad, open-cut}
+use Rattle.format.proofs.Loop.{open-got, open-on, open-stop, open-end, open-bad, open-cut}
+use Rattle.format.proofs.Open.{Open, delimited-open}
 use Rattle.querygrammar.proofs.Query.{item-delimited, signbox-item-open}
 use Rattle.queryitem.specs.declared.reading.Numbers.{Numbers}
 use Rattle.queryitem.specs.declared.reading.Piece.{Piece}
@@ -94,12 +97,6 @@ module _ {A : Type 0} (f : Format A) (of : A → Item) where
 
 -- THE ROWS
 
-pub sets-append : (xs ys l : List ℕ) (i : ℕ) → sets (sets l i xs) (i + length xs) ys ≡ sets l i (xs ++ ys)
-sets-append [] ys l i = ap (λ j. sets l j ys) (omega arith)
-sets-append (x ∷ xs) ys l i =
-    let e : i + suc (length xs) ≡ suc i + length xs = omega arith in
-    ap (λ j. sets (sets (set l i x) (suc i) xs) j ys) e ∙ sets-append xs ys (set l i x) (suc i)
-
 kept-length : (p : List ℕ) (from n : ℕ) (m : Numbers) → length (keptRow p from n m) ≡ length p
 unfolding keptRow
 kept-length p from n m = go (ltb n 32)
@@ -139,9 +136,6 @@ unfolding keptRow
 kept-not p from n m h = rw (le-ltb n 32 h)
 
 -- THE LOOP
-
-done-same : {A : Type 0} {a b : A} → done a ≡ done b → a ≡ b
-done-same e = cc
 
 sort-open : (boxed : Bool) → Open 1 (sort boxed .format)
 sort-open true = signbox-item-open
@@ -191,7 +185,7 @@ module _ (boxed : Bool) where
 
   sighted-go : (s : List ℕ) (i : ℕ) (m : Numbers) (next : ℕ) (l : Located (sort boxed .Says)) → locate f s i ≡ l → done (m, next) ≡ ofLocated (length s) (onFound num l) → Sighted s i m next
   sighted-go s i m next (found a j) e q =
-      let x = done-same q in
+      let x = same-done q in
       record { says = a; is = e ∙ ap (λ k. found a (k .1)) (sym x); means = ap (λ k. k .0) x }
   sighted-go s i m next (wrongAt p) e q = refusal-done textWrong p (sym q)
   sighted-go s i m next shortHere e q = refusal-done textShort (length s) (sym q)

@@ -1,5 +1,5 @@
 -- Loops that read zero or more of a format into lent arrays.
-use Prim.Native.Nat.{ℕ, zero, suc, _+_, _≤_, _<_}
+use Prim.Native.Nat.{ℕ, _+_, _≤_, _<_}
 use mathlib.Core.List.{List, [], _∷_, _++_, map, map-append}
 use mathlib.Core.Path.{_≡_, refl, sym, ap, _∙_}
 use lib.ListN.{length, set, length-append, length-map}
@@ -13,27 +13,9 @@ use Rattle.token.specs.Result.{refusal, ofLocated, resultAt, valueAt}
 use Rattle.token.proofs.Checks.{refusal-done}
 use Rattle.token.proofs.Results.{onDone-refusal}
 use Rattle.reader.specs.declared.arrays.Count.{Count}
-use Rattle.token.specs.Padded.{padded, zeros}
+use Rattle.token.specs.Padded.{padded}
+use Rattle.token.proofs.PaddedLists.{padded-length, padded-put}
 use Rattle.reader.specs.Inner.{countOf, Holds}
-
--- A list put into an array, one value after the other.
-
-pub padded-length : (k : ℕ) (l : List ℕ) → length (padded k l) ≡ k
-unfolding padded
-padded-length zero l = refl
-padded-length (suc k) [] = ap suc (padded-length k [])
-padded-length (suc k) (v ∷ l) = ap suc (padded-length k l)
-
-pub padded-none : (k : ℕ) → zeros k ≡ padded k []
-unfolding padded
-padded-none zero = refl
-padded-none (suc k) = ap (λ m. 0 ∷ m) (padded-none k)
-
-pub padded-put : (k : ℕ) (l : List ℕ) (v : ℕ) → set (padded k l) (length l) v ≡ padded k (l ++ (v ∷ []))
-unfolding padded
-padded-put zero l v = refl
-padded-put (suc k) [] v = refl
-padded-put (suc k) (u ∷ l) v = ap (λ m. u ∷ m) (padded-put k l v)
 
 -- one more value in an array
 pub put-more : {A : Type 0} (k : ℕ) (of : A → ℕ) (l : List A) (a : A) (n : ℕ) (array next : List ℕ) → array ≡ padded k (map of l) → n ≡ length l

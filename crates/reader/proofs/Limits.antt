@@ -13,6 +13,7 @@ use Rattle.grammar.specs.Sign.{Meaning, readSign}
 use Rattle.token.specs.Refusal.{prefixLong, signboxLong}
 use Rattle.token.specs.Result.{Result, refusal, done, andThen, check, ofOutcome}
 use Rattle.token.proofs.Checks.{check-done, andThen-done, Counted, done-counted, check-counted, andThen-counted, outcome-counted}
+use Rattle.token.proofs.Results.{outcome-done}
 use Rattle.reader.specs.declared.arrays.Head.{Head}
 use Rattle.token.specs.Padded.{padded}
 use Rattle.reader.specs.Signs.{withinLimits, signOf}
@@ -46,11 +47,6 @@ pub record Limited (set : Charset) (s : List ℕ) (m : Meaning) : Type 0 where
   pub says : readSign set s ≡ fine m
   pub prefix : length (m .prefix) ≤ 32
   pub symbols : length (m .symbols) ≤ 64
-
-outcome-done : (size : ℕ) (o : Outcome Meaning) (m : Meaning) → ofOutcome size o ≡ done m → o ≡ fine m
-outcome-done size (fine k) m e = let z : k ≡ m = cc in ap fine z
-outcome-done size (refused p) m e = absurd (let z : _≡_ {A = ℕ} 0 1 = cc in omega arith)
-outcome-done size endsShort m e = absurd (let z : _≡_ {A = ℕ} 0 1 = cc in omega arith)
 
 pub sign-limited : (set : Charset) (s : List ℕ) (m : Meaning) → signOf set s ≡ done m → Limited set s m
 unfolding signOf

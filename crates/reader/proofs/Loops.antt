@@ -21,8 +21,9 @@ use Rattle.part.specs.Placed.{placedAt, placedResult}
 use Rattle.part.proofs.Placing.{placed-result}
 use Rattle.reader.specs.declared.arrays.Count.{Count}
 use Rattle.token.specs.Padded.{padded, zeros}
+use Rattle.token.proofs.PaddedLists.{padded-none}
 use Rattle.reader.specs.Inner.{PrefixIn, SymbolsIn}
-use Rattle.reader.proofs.Filling.{padded-none, Progress, progress-start, progress-on, grows, put-more, held-length, Out, out-stop, out-end, out-refused}
+use Rattle.reader.proofs.Filling.{Progress, progress-start, progress-on, grows, put-more, held-length, Out, out-stop, out-end, out-refused}
 
 module _ (set : Charset) where
   abbrev t : Tokens

@@ -24,10 +24,10 @@ use Rattle.token.specs.Padded.{padded, zeros}
 use Rattle.token.proofs.Told.{Told, told-at, told-wrong, told-short}
 use Rattle.token.proofs.Checks.{refusal-done}
 use Rattle.token.proofs.Results.{located-counted, located-done}
+use Rattle.token.proofs.PaddedLists.{padded-none}
 use Rattle.reader.specs.declared.arrays.Count.{Count}
 use Rattle.reader.specs.Inner.{countOf, Holds, PrefixIn, Begun, LeadingPrefix}
 use Rattle.reader.proofs.Counts.{was-refused, Read, was-read}
-use Rattle.reader.proofs.Filling.{padded-none}
 
 abbrev pub Pre : Type 0
 Pre = Option (ℕ × (ℕ × List ℕ))

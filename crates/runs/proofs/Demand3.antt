@@ -4,7 +4,8 @@ use mathlib.Core.Path.{_≡_, refl, ap, _∙_}
 use mathlib.Core.List.{List, [], _∷_, map}
 use mathlib.Core.Bool.{Bool, true, _&&_}
 use lib.ListN.{length}
-use Rattle.format.specs.Format.{choose, keep}
+use Rattle.format.specs.Format.{choose, every, keep}
+use Rattle.format.proofs.Lists.{every-true}
 use Rattle.charset.specs.declared.Charset.{Charset}
 use Rattle.grammar.specs.Sign.{Meaning}
 use Rattle.token.specs.Result.{Result, refusal, done, onDone}
@@ -40,21 +41,15 @@ claim =
     openingFill
     opening-fill
 
--- the queries all fit
-all-fit : (queries : List (List ℕ)) → Form.every (λ query. true) queries ≡ true
-unfolding Form.every
-all-fit [] = refl
-all-fit (query ∷ queries) = all-fit queries
-
 -- what the accepted queries ask of an entry is that its line meets each
 asks-each : (set : Charset) (dict : List ℕ) (e : ℕ) (queries : List (List ℕ))
-    → Form.every (λ query. Form.asks (testOf set dict query) e) queries ≡ meetsEach set (keep isAccepted queries) (lineOf dict e)
-unfolding Form.every meetsEach keep verdictIn
+    → every (λ query. Form.asks (testOf set dict query) e) queries ≡ meetsEach set (keep isAccepted queries) (lineOf dict e)
+unfolding meetsEach keep verdictIn
 asks-each set dict e [] = refl
 asks-each set dict e (query ∷ queries) = go (queryOf query) refl (asks-each set dict e queries)
   where
-    go : (r : Result Query) → queryOf query ≡ r → Form.every (λ query. Form.asks (testOf set dict query) e) queries ≡ meetsEach set (keep isAccepted queries) (lineOf dict e)
-        → (Form.asks (onDone (meets set dict) r) e && Form.every (λ query. Form.asks (testOf set dict query) e) queries)
+    go : (r : Result Query) → queryOf query ≡ r → every (λ query. Form.asks (testOf set dict query) e) queries ≡ meetsEach set (keep isAccepted queries) (lineOf dict e)
+        → (Form.asks (onDone (meets set dict) r) e && every (λ query. Form.asks (testOf set dict query) e) queries)
         ≡ meetsEach set (choose (isDone r) (query ∷ keep isAccepted queries) (keep isAccepted queries)) (lineOf dict e)
     go (refusal number place) k h = h
     go (done q) k h = rw (k, h)
@@ -82,16 +77,16 @@ demand3 =
     record {
       meets = verdict-laws .exactly;
       ending = λ set dict list o queries.
-          claim .ending (bookOf (set, dict)) list o queries (all-fit queries)
+          claim .ending (bookOf (set, dict)) list o queries (every-true queries)
           ∙ rw (upTo-length (length (lines dict)), left-meeting set dict queries);
       rises = meeting-rises;
-      counting = λ set dict list o queries. claim .counting (bookOf (set, dict)) list o queries (all-fit queries) ∙ ap length (left-meeting set dict queries);
+      counting = λ set dict list o queries. claim .counting (bookOf (set, dict)) list o queries (every-true queries) ∙ ap length (left-meeting set dict queries);
       adding = λ set dict list o queries.
-          rw (← left-meeting set dict queries) (claim .adding (bookOf (set, dict)) list o queries (all-fit queries) ∙ upTo-length (length (lines dict)));
+          rw (← left-meeting set dict queries) (claim .adding (bookOf (set, dict)) list o queries (every-true queries) ∙ upTo-length (length (lines dict)));
       telling = λ set dict list o queries.
-          claim .telling (bookOf (set, dict)) list o queries (all-fit queries)
+          claim .telling (bookOf (set, dict)) list o queries (every-true queries)
           ∙ (λ i. map {B = List ℕ × (ℕ × ℕ)} (λ query. (query, refusal-own set dict query i)) queries);
-      reordering = λ set dict list o queries reordered p. claim .reordering (bookOf (set, dict)) list o queries reordered (all-fit queries) p;
+      reordering = λ set dict list o queries reordered p. claim .reordering (bookOf (set, dict)) list o queries reordered (every-true queries) p;
       rewritten-lines = λ set dict list o e l h. lines-alike (set, dict) (opened-from set dict list o .0) e l h;
       rewriting = λ set dict list o queries. let r = claim .rewriting (set, dict) list o queries in (r .0, r .2);
     }

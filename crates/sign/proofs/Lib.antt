@@ -1,3 +1,4 @@
+pub mod Copies
 pub mod Packed
 pub mod Readings
 pub mod Stepping

@@ -17,12 +17,13 @@ use Rattle.grammar.proofs.Offsets.{steps-length, steps-at, offsets-rise, Stands
 use Rattle.charset.specs.Tokens.{tokens, lastLocation, lastCode}
 use Rattle.token.specs.Result.{done}
 use Rattle.token.specs.Padded.{padded}
+use Rattle.token.proofs.PaddedLists.{padded-at, take-padded}
 use Rattle.symbol.specs.Codes.{codeOf, codeAs, codeRead}
 use Rattle.symbol.proofs.CodeLaws.{code-laws}
 use Rattle.reader.specs.Signs.{signOf}
 use Rattle.sign.specs.Reading.{packed, readingOf, readingIn}
 use Rattle.sign.specs.OffsetLaws.{codesIn, offsetsIn, ReadAlike, OffsetLaws}
-use Rattle.sign.proofs.Packed.{padded-at, take-padded, Within, sign-within, sign-reads, read-means, meaningOf, packed-means}
+use Rattle.sign.proofs.Packed.{Within, sign-within, sign-reads, read-means, meaningOf, packed-means}
 
 codes-most : (m : Meaning) → Valid m → All (λ code. code ≤ 62592) (m .prefix ++ map (λ s. s .code) (m .symbols))
 codes-most m ok =

@@ -1,35 +1,21 @@
 -- What the record of a sign holds: the sign itself, within the limits.
-use Prim.Native.Nat.{ℕ, zero, suc, _≤_, _<_}
-use mathlib.Core.List.{List, [], _∷_, map}
+use Prim.Native.Nat.{ℕ, _≤_, _<_}
+use mathlib.Core.List.{List, map}
 use mathlib.Core.Path.{_≡_, refl, sym, ap, _∙_}
-use lib.ListN.{length, getD, take, List·getD-map}
+use lib.ListN.{length, getD, List·getD-map}
 use native.Mathlib.Omega.{arith}
 use Rattle.charset.specs.declared.Charset.{Charset}
 use Rattle.grammar.specs.Sign.{Spatial, Meaning, Valid, signText}
 use Rattle.grammar.proofs.SignLaws.{sign-laws}
 use Rattle.token.specs.Result.{Result, refusal, done}
 use Rattle.token.specs.Padded.{padded}
+use Rattle.token.proofs.PaddedLists.{padded-at}
 use Rattle.writer.specs.Arrays.{upto, at, symbolAt, meaningIn}
 use Rattle.writer.proofs.Upto.{upto-is}
 use Rattle.reader.specs.Signs.{signOf}
 use Rattle.reader.proofs.Limits.{sign-limited, sign-counted}
 use Rattle.sign.specs.declared.Sign.{Sign}
 use Rattle.sign.specs.Reading.{packed, readingOf, readingIn}
-
-pub padded-at : (k : ℕ) (l : List ℕ) (i : ℕ) → i < k → getD (padded k l) i 0 ≡ getD l i 0
-unfolding padded
-padded-at zero l i h = absurd (omega arith)
-padded-at (suc k) [] zero h = refl
-padded-at (suc k) [] (suc i) h = padded-at k [] i (omega arith)
-padded-at (suc k) (v ∷ l) zero h = refl
-padded-at (suc k) (v ∷ l) (suc i) h = padded-at k l i (omega arith)
-
-pub take-padded : (k : ℕ) (l : List ℕ) → length l ≤ k → take (length l) (padded k l) ≡ l
-unfolding padded
-take-padded zero [] h = refl
-take-padded zero (v ∷ l) h = absurd (omega arith)
-take-padded (suc k) [] h = refl
-take-padded (suc k) (v ∷ l) h = ap (λ m. v ∷ m) (take-padded k l (omega arith))
 
 -- within the limits, and valid
 pub record Within (m : Meaning) : Type 0 where

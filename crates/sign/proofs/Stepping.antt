@@ -19,9 +19,8 @@ use Rattle.grammar.specs.Offsets.{steps}
 use Rattle.grammar.proofs.SignSize.{size-most}
 use Rattle.grammar.proofs.Offsets.{steps-length, steps-at}
 use Rattle.token.specs.Padded.{padded, zeros}
-use Rattle.reader.proofs.Filling.{padded-length, padded-none}
+use Rattle.token.proofs.PaddedLists.{padded-length, padded-none, padded-at}
 use Rattle.sign.specs.Inner.{Cleared}
-use Rattle.sign.proofs.Packed.{padded-at}
 
 -- what stands in a place
 step-at : (first size n i : ℕ) → choose (ltb i n) (first + i * size) 0 ≡ getD (steps first size n) i 0

@@ -10,12 +10,12 @@ use Rattle.grammar.specs.Sign.{Meaning, Valid, signText}
 use Rattle.token.specs.Padded.{padded}
 use Rattle.token.specs.declared.Written.{Written}
 use Rattle.token.specs.Result.{done, onDone}
+use Rattle.token.proofs.PaddedLists.{padded-length}
 use Rattle.writer.specs.Arrays.{meaningIn}
 use Rattle.writer.proofs.Answers.{Answers, answers-refused}
 use Rattle.reader.specs.declared.arrays.Head.{Head}
 use Rattle.reader.specs.Signs.{signOf}
 use Rattle.reader.specs.Inner.{headOf, HoldsSymbols, ReadInto}
-use Rattle.reader.proofs.Filling.{padded-length}
 use Rattle.reader.proofs.Limits.{Known, not-read, was-read, known}
 use Rattle.sign.specs.Transcription.{otherSet, transcription}
 use Rattle.sign.proofs.Packed.{Within, sign-within, packed-means}

@@ -26,7 +26,7 @@ pub written-reads : (set : Charset) (m : Meaning) → Within m → signOf set (s
 written-reads set m w =
     limited-sign set (signText set m) m (record { says = sign-laws set .reads m (w .valid); prefix = w .prefix; symbols = w .symbols })
 
-twice : (set : Charset) → otherSet (otherSet set) ≡ set
+pub twice : (set : Charset) → otherSet (otherSet set) ≡ set
 twice Fsw = refl
 twice Swu = refl
 

@@ -7,6 +7,7 @@ use charset::Charset;
 use token::Written;
 use token::refusal::DONE;
 
+pub mod copying;
 pub mod offsets;
 pub mod packing;
 pub mod sets;

@@ -20,11 +20,11 @@ use Rattle.matching.specs.Meets.{satisfies, prefixHolds, serves, judged, witnes
 use Rattle.verdict.specs.Verdict.{verdictOn, verdictIn}
 use Rattle.bounds.specs.Boxes.{grownAll, groupsOf}
 use Rattle.bounds.specs.Sizes.{firstUnsized, measured}
-use Rattle.moving.specs.Moves.{allOf, movedSign, centredSign, centredText}
+use Rattle.moving.specs.Moves.{movedSign, centredSign, centredText}
 use Rattle.starred.specs.Starred.{StarredRows, OtherRows, NumberRows, CentringRows, OffsetRows, StylingRows}
 
 pub starred : StarredRows
-unfolding codeRead codeText digitOf markerOf signOf queryOf verdictIn verdictOn verdictOf prefixHolds satisfies judged witnessesOf serves centredText centredSign measured firstUnsized groupsOf keep grownAll movedSign allOf
+unfolding codeRead codeText digitOf markerOf signOf queryOf verdictIn verdictOn verdictOf prefixHolds satisfies judged witnessesOf serves centredText centredSign measured firstUnsized groupsOf keep grownAll movedSign
 starred = record {
   S10019 = refl;
   S2ea04 = refl;
@@ -75,7 +75,7 @@ numbers = record {
 }
 
 pub centrings : CentringRows
-unfolding centredText signOf digitOf markerOf centredSign measured firstUnsized groupsOf keep grownAll movedSign allOf
+unfolding centredText signOf digitOf markerOf centredSign measured firstUnsized groupsOf keep grownAll movedSign
 centrings = record {
   both = λ sizes n a b c. rw (eq-eqb (length sizes) 125184 n, a .width, a .height, b .width, b .height, c .width, c .height);
   trunk = λ sizes n a b. rw (eq-eqb (length sizes) 125184 n, a .width, a .height, b .width, b .height);
@@ -117,6 +117,9 @@ stylings = record {
   present = refl;
   longName = refl;
   zoomBeforeName = refl;
+  manyStyles = refl;
+  zoomBeforePrefix = refl;
+  longPrefix = refl;
   inNumber = refl;
   extendableInSwu = refl;
   undashedInSwu = refl;
@@ -125,4 +128,6 @@ stylings = record {
   earlyAndCut = refl;
   transcribed = refl;
   plain = refl;
+  plainInGroup = refl;
+  plainInLess = refl;
 }

@@ -135,6 +135,9 @@ pub record StylingRows : Type 0 where
   pub present : respelled Fsw (ascii "M500x500-P00Z1") ≡ done (ascii "-P00Z1")
   pub longName : styledOf Fsw (ascii "M500x500-G_abcdefghijklmnopqrstuvwxy_") ≡ refusal 18 0
   pub zoomBeforeName : styledOf Fsw (ascii "M500x500-G_abcdefghijklmnopqrstuvwxy_Z0") ≡ refusal 17 0
+  pub manyStyles : styledOf Fsw (ascii "M500x500--Z01,1Z01,1Z01,1Z01,1Z01,1Z01,1Z01,1Z01,1Z01,1Z01,1Z01,1Z01,1Z01,1Z01,1Z01,1Z01,1Z01,1Z01,1Z01,1Z01,1Z01,1Z01,1Z01,1Z01,1Z01,1Z01,1Z01,1Z01,1Z01,1Z01,1Z01,1Z01,1Z01,1Z01,1Z01,1Z01,1Z01,1Z01,1Z01,1Z01,1Z01,1Z01,1Z01,1Z01,1Z01,1Z01,1Z01,1Z01,1Z01,1Z01,1Z01,1Z01,1Z01,1Z01,1Z01,1Z01,1Z01,1Z01,1Z01,1Z01,1Z01,1Z01,1Z01,1Z01,1Z01,1") ≡ refusal 19 0
+  pub zoomBeforePrefix : styledOf Fsw (ascii "AS10000S10000S10000S10000S10000S10000S10000S10000S10000S10000S10000S10000S10000S10000S10000S10000S10000S10000S10000S10000S10000S10000S10000S10000S10000S10000S10000S10000S10000S10000S10000S10000S10000M500x500-Z0") ≡ refusal 17 0
+  pub longPrefix : styledOf Fsw (ascii "AS10000S10000S10000S10000S10000S10000S10000S10000S10000S10000S10000S10000S10000S10000S10000S10000S10000S10000S10000S10000S10000S10000S10000S10000S10000S10000S10000S10000S10000S10000S10000S10000S10000M500x500-") ≡ refusal 3 0
   pub inNumber : styledOf Fsw (ascii "M749x750-Z0") ≡ refusal 1 5
   pub extendableInSwu : styledOf Swu (plainInSwu ++ ascii "-Zx") ≡ refusal 1 14
   pub undashedInSwu : styledOf Swu plainInSwu ≡ refusal 2 12
@@ -143,3 +146,5 @@ pub record StylingRows : Type 0 where
   pub earlyAndCut : styledOf Swu (take 8 plainInSwu ++ ascii "-Zx") ≡ refusal 2 11
   pub transcribed : styledTranscription Fsw (ascii "M500x500-Z1.50") ≡ done (plainInSwu ++ ascii "-Z1.50")
   pub plain : signOf Fsw (ascii "M500x500-") ≡ refusal 1 8
+  pub plainInGroup : signOf Swu (plainInSwu ++ ascii "-Z1x") ≡ refusal 1 12
+  pub plainInLess : signOf Swu (plainInSwu ++ ascii "-") ≡ refusal 2 13

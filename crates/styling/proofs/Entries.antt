@@ -1,13 +1,13 @@
 -- The entries: one law for each return.
 use Prim.Native.Nat.{ℕ, _+_, _-_, _≤_, _<_}
 use mathlib.Core.List.{List, [], _++_}
-use mathlib.Core.Path.{_≡_, refl, sym, ap, _∙_}
+use mathlib.Core.Path.{_≡_, refl, sym, ap, subst, _∙_}
 use mathlib.Core.Bool.{Bool, true, false}
-use lib.ListN.{length, take, drop, length-append, length-drop}
-use lib.Seq.{drop-append-seam, take-append-seam}
+use lib.ListN.{length, getD, take, drop, length-append, length-drop}
+use lib.Seq.{paste, drop-append-seam, take-append-seam, take-all, length-take-le}
 use native.Mathlib.Omega.{arith}
 use borrow.Author.Tests.{le-ltb}
-use Rattle.format.specs.Places.{Outcome, fine, refused, endsShort, reading}
+use Rattle.format.specs.Places.{fine, reading}
 use Rattle.charset.specs.declared.Charset.{Charset}
 use Rattle.charset.specs.declared.Charset.the-variants.{Fsw, Swu}
 use Rattle.grammar.specs.Sign.{Meaning, Valid, signText}
@@ -16,8 +16,9 @@ use Rattle.grammar.proofs.SignSize.{sign-size, size-most}
 use Rattle.token.specs.declared.Written.{Written}
 use Rattle.token.specs.Padded.{padded, zeros}
 use Rattle.token.specs.Refusal.{textWrong, roomShort}
-use Rattle.token.specs.Result.{Result, refusal, done, onDone, andThen, ofOutcome, output}
+use Rattle.token.specs.Result.{Result, refusal, done, onDone, andThen, output}
 use Rattle.token.proofs.Checks.{outcome-counted}
+use Rattle.token.proofs.Results.{outcome-done}
 use Rattle.token.specs.Wrote.{Wrote}
 use Rattle.writer.proofs.Writes.{wrote-more, wrote-as}
 use Rattle.writer.proofs.Answers.{Answers, answers-refused, answers-short, answers-done}
@@ -28,24 +29,27 @@ use Rattle.sign.specs.Reading.{noSign, readingOf}
 use Rattle.sign.specs.Transcription.{otherSet}
 use Rattle.sign.specs.Inner.{signIn, Counted}
 use Rattle.writer.specs.Arrays.{meaningIn}
+use Rattle.sign.proofs.Copies.{zeros-left}
 use Rattle.sign.proofs.Transcribing.{Lying, lying-there}
 use Rattle.stylinggrammar.specs.Styling.{Spelling, styling}
-use Rattle.stylinggrammar.specs.Meaning.{meaning, zoomsGood, namesGood, stylesFew, stylingText}
+use Rattle.stylinggrammar.specs.Meaning.{meaning, stylingText}
 use Rattle.stylinggrammar.specs.StylingLaws.{Accepted}
 use Rattle.stylinggrammar.proofs.StylingLaws.{styling-laws}
-use Rattle.stylinggrammar.specs.Record.{recordSize, recordOf, stylingIn}
+use Rattle.stylinggrammar.specs.Record.{recordSize, draftSize, recordOf, rowAt, stylingIn}
+use Rattle.stylinggrammar.specs.DraftLaws.{Drafted}
 use Rattle.stylinggrammar.specs.Filling.{putStyling}
 use Rattle.stylinggrammar.proofs.RecordLaws.{record-laws}
+use Rattle.stylinggrammar.proofs.Drafts.{draft-laws}
 use Rattle.stylingreader.specs.declared.reading.Found.{Found}
 use Rattle.stylingreader.specs.Reading.{stylingFrom, foundOf, StylingIn}
 use Rattle.stylinggrammar.specs.Styled.{dashAt}
 use Rattle.styling.specs.Reading.{stylingLimits, styledOf, styledReading, recordLeft}
 use Rattle.styling.specs.Transcription.{styledTranscription}
 use Rattle.styling.specs.Writing.{recordRead, sameNumbers, isRecord, writing}
-use Rattle.styling.specs.Inner.{StyledInto, Ready, recordIn}
-use Rattle.styling.proofs.Splits.{Split, styled-split, styled-counted, split-dash, split-string, outcome-done, limits-done}
-use Rattle.styling.proofs.Laws.{written-string}
+use Rattle.styling.specs.Inner.{StyledInto, DraftInto, Ready, recordIn}
+use Rattle.styling.proofs.Splits.{Split, styled-split, styled-counted, split-dash, limits-done}
 use Rattle.styling.proofs.Texts.{from-reading, rest-part}
+use Rattle.styling.proofs.Drafting.{string-from}
 
 -- WHAT IS KNOWN of a styled text that was read into arrays, by its number
 
@@ -80,13 +84,6 @@ wrote-sign o p text l e =
 -- no refusal of a styling string has the number 0
 refusal-number : (u : List ℕ) (n p : ℕ) → stylingFrom u 0 ≡ refusal n p → 0 < n
 refusal-number u n p e = outcome-counted (length u) (reading 1 styling u) n p (sym (from-reading u) ∙ e)
-
--- the styling of a text that was split
-string-from : (set : Charset) (s : List ℕ) (m : Meaning) (t : Spelling) → Split set s m t → stylingFrom (drop (dashAt s) s) 0 ≡ done t
-string-from set s m t k =
-    from-reading (drop (dashAt s) s)
-    ∙ ap (λ u. ofOutcome (length u) (reading 1 styling u)) (split-string set s m t k)
-    ∙ ap (ofOutcome (length (styling .write t))) (written-string t (k .valid))
 
 -- a text that was read: its sign, its styling and where that starts
 record WasRead (set : Charset) (s : List ℕ) (h : Head) (array codes xs ys : List ℕ) : Type 0 where
@@ -139,8 +136,8 @@ module _ (set : Charset) (s : List ℕ) (h : Head) (array codes xs ys : List ℕ
     rest-from : stylingFrom rest 0 ≡ done (k .both .1)
     rest-from = ap (λ u. stylingFrom u 0) rest-is ∙ string-from set s (k .both .0) (k .both .1) (k .split)
 
-    pub ready : Ready rest
-    ready = record { spelling = k .both .1; reads = rest-from; accepted = k .split .accepted }
+    pub ready : (draft : List ℕ) → DraftInto set s (zeros draftSize) draft → Ready rest draft
+    ready draft d = record { spelling = k .both .1; reads = rest-from; accepted = k .split .accepted; kept = d .is (k .both) (k .reads) }
 
     lying : Lying (k .both .0) (k .split .within) h (dashAt s) array codes xs ys (k .head) (k .holds)
     lying = lying-there (k .both .0) (k .split .within) h (dashAt s) array codes xs ys (k .head) (k .holds)
@@ -203,9 +200,6 @@ module _ (set : Charset) (s : List ℕ) (h : Head) (array codes xs ys : List ℕ
         sign-wrote : Wrote o p 0 at (signText other (k .both .0))
         sign-wrote = rw at-is (wrote-sign o p (signText other (k .both .0)) (omega (arith, at-is)) (a .1 ∙ ap (λ m. output o (done (signText other m))) (lying .same)))
 
-        pub rest-fits : at + length rest ≤ length p
-        rest-fits = omega (arith, sign-wrote .same, ap length rest-is, length-drop (dashAt s) s, place-is)
-
         pub transcribed-done : (q : List ℕ) (n : ℕ) → Wrote p q at n rest → Answers o (styledTranscription set s) (record { number = 0; place = 0; length = at + (length s - h .place) }) q
         transcribed-done q n v =
             let t : Wrote o q 0 n all = wrote-more sign-wrote (wrote-as v rest-is) in
@@ -221,8 +215,45 @@ module _ (u : List ℕ) where
   filled : (t : Spelling) (f : Found) (p : List ℕ) → stylingFrom u 0 ≡ done t → Accepted t → StylingIn u 0 f (zeros recordSize) p → p ≡ recordOf (meaning t)
   filled t f p e a v = v .puts t e ∙ record-laws .fills t (styling-laws .fines u t .0 (fine-of t e) .0) a
 
-  pub fill-done : Ready u → (f : Found) (p : List ℕ) → StylingIn u 0 f (zeros recordSize) p → p ≡ recordIn (stylingFrom u 0)
-  fill-done r f p v = filled (r .spelling) f p (r .reads) (r .accepted) v ∙ ap recordIn (sym (r .reads))
+  module _ (draft : List ℕ) (r : Ready u draft) where
+    -- filled from the text
+    pub fill-read : (f : Found) (p : List ℕ) → StylingIn u 0 f (zeros recordSize) p → p ≡ recordIn (stylingFrom u 0)
+    fill-read f p v = filled (r .spelling) f p (r .reads) (r .accepted) v ∙ ap recordIn (sym (r .reads))
+
+    -- filled from the draft
+    drafted : Drafted (r .spelling) draft
+    drafted =
+        subst (λ (l : List ℕ). Drafted (r .spelling) l) (sym (r .kept))
+        (draft-laws .drafts (r .spelling) (styling-laws .fines u (r .spelling) .0 (fine-of (r .spelling) (r .reads)) .0) (r .accepted))
+
+    pub draft-long : length draft ≡ draftSize
+    draft-long = drafted .size
+
+    module _ (few : getD draft 4 0 ≤ 8) where
+      abbrev used : ℕ
+      used = rowAt (getD draft 4 0)
+
+      abbrev part : List ℕ
+      part = take (used - 0) (drop 0 draft)
+
+      part-is : part ≡ take used draft
+      part-is = let e : used - 0 ≡ used = omega arith in ap (λ k. take k draft) e
+
+      part-size : length part ≡ used
+      part-size = ap length part-is ∙ length-take-le used draft (omega (arith, draft-long))
+
+      start : recordOf (meaning (r .spelling)) ≡ take used draft ++ zeros (recordSize - used)
+      start =
+          let c = drafted .count in
+          drafted .start (omega (arith, c)) ∙ (λ i. take (rowAt (sym c i)) draft ++ zeros (recordSize - rowAt (sym c i)))
+
+      pub fill-copied : (p : List ℕ) → p ≡ paste (zeros recordSize) 0 part (length part) → p ≡ recordIn (stylingFrom u 0)
+      fill-copied p e =
+          let k : recordSize ≡ (0 + length part) + (recordSize - used) = omega (arith, part-size) in
+          e
+          ∙ (λ i. take-all (length part) part (omega arith) i ++ drop (0 + length part) (zeros (k i)))
+          ∙ (λ i. part-is i ++ zeros-left (0 + length part) (recordSize - used) i)
+          ∙ sym start ∙ ap recordIn (sym (r .reads))
 
   -- whether a string reads as a record
   abbrev judged : Result Spelling → Result (List ℕ)

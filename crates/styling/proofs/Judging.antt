@@ -1,9 +1,9 @@
 -- What is refused of a sign and its styling, in order: one law for each return.
 use Prim.Native.Nat.{ℕ, suc, _+_, _≤_, _<_}
-use mathlib.Core.List.{List, [], _∷_}
+use mathlib.Core.List.{List, _∷_}
 use mathlib.Core.Path.{_≡_, refl, sym, ap, _∙_}
-use mathlib.Core.Bool.{Bool, true, false, _&&_}
-use lib.Dec.{eqb, lit<}
+use mathlib.Core.Bool.{true, false, _&&_}
+use lib.Dec.{eqb}
 use lib.ListN.{length, getD, drop, drop-of-length-le}
 use lib.Seq.{drop-cons}
 use native.Mathlib.Omega.{arith}
@@ -13,7 +13,7 @@ use Rattle.format.specs.Format.{choose}
 use Rattle.format.specs.Places.{Outcome, fine, refused, endsShort}
 use Rattle.charset.specs.declared.Charset.{Charset}
 use Rattle.grammar.specs.Sign.{Meaning, readSign}
-use Rattle.token.specs.Refusal.{textShort, zoomWrong, nameLong, stylesMany}
+use Rattle.token.specs.Refusal.{textShort, zoomOutside, colourLong, stylesLong}
 use Rattle.token.specs.Result.{ofOutcome}
 use Rattle.reader.specs.declared.arrays.Head.{Head}
 use Rattle.reader.specs.Inner.{noHead, limited, ReadAs, whole, TextInto}
@@ -28,17 +28,17 @@ module _ (f : Found) (at : ℕ) (h : Head) where
   judged-refused n = rw (ne-eqb (f .number) 0 n)
 
   module _ (n : f .number ≡ 0) where
-    pub judged-zooms : f .zooms ≡ false → noHead zoomWrong 0 ≡ judgedHead f at h
+    pub judged-zooms : f .zooms ≡ false → noHead zoomOutside 0 ≡ judgedHead f at h
     unfolding judgedHead
     judged-zooms z = rw (eq-eqb (f .number) 0 n, z)
 
     module _ (z : f .zooms ≡ true) where
-      pub judged-names : f .names ≡ false → noHead nameLong 0 ≡ judgedHead f at h
+      pub judged-names : f .names ≡ false → noHead colourLong 0 ≡ judgedHead f at h
       unfolding judgedHead
       judged-names k = rw (eq-eqb (f .number) 0 n, z, k)
 
       module _ (k : f .names ≡ true) where
-        pub judged-styles : f .few ≡ false → noHead stylesMany 0 ≡ judgedHead f at h
+        pub judged-styles : f .few ≡ false → noHead stylesLong 0 ≡ judgedHead f at h
         unfolding judgedHead
         judged-styles w = rw (eq-eqb (f .number) 0 n, z, k, w)
 

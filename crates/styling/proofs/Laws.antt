@@ -1,37 +1,38 @@
 -- The laws of reading, writing and transcription.
 use Prim.Native.Nat.{ℕ, _≤_}
-use mathlib.Core.Path.{_≡_, refl, sym, ap, subst, _∙_}
+use mathlib.Core.Path.{_≡_, refl, sym, ap, _∙_}
 use mathlib.Core.List.{List, [], _∷_, _++_}
 use mathlib.Core.Bool.{Bool, true, false, _&&_}
 use mathlib.Core.Logic.{_↔_}
+use native.Mathlib.Omega.{arith}
 use lib.Dec.{eqb}
 use lib.ListN.{length, take, drop}
-use native.Mathlib.Omega.{arith}
 use borrow.Author.Tests.{eqb-true, eq-eqb}
 use Rattle.format.specs.Places.{fine, reading}
 use Rattle.charset.specs.declared.Charset.{Charset}
-use Rattle.charset.specs.declared.Charset.the-variants.{Fsw, Swu}
 use Rattle.grammar.specs.Sign.{Meaning, signText}
 use Rattle.token.specs.Refusal.{textWrong}
 use Rattle.token.specs.Result.{Result, refusal, done, onDone, check, written, leftText, Leaves}
-use Rattle.token.proofs.Checks.{refusal-done, check-failed, check-done, onDone-done, Counted, onDone-counted}
+use Rattle.token.proofs.Checks.{refusal-done, check-done, onDone-done, Counted, onDone-counted}
+use Rattle.token.proofs.Results.{same-done}
 use Rattle.writer.proofs.Answers.{accepted, leaves}
 use Rattle.reader.specs.Signs.{signOf}
 use Rattle.sign.specs.Reading.{readingOf, readingIn}
 use Rattle.sign.specs.Transcription.{otherSet, transcription}
 use Rattle.sign.proofs.Packed.{sign-within, sign-reads}
-use Rattle.sign.proofs.Transcriptions.{written-reads}
+use Rattle.sign.proofs.Transcriptions.{written-reads, twice}
 use Rattle.stylinggrammar.specs.Styling.{Spelling, styling}
 use Rattle.stylinggrammar.specs.Meaning.{meaning, stylingText, Valid}
 use Rattle.stylinggrammar.specs.StylingLaws.{Reads}
 use Rattle.stylinggrammar.proofs.StylingLaws.{styling-laws}
 use Rattle.stylinggrammar.specs.Record.{recordOf, stylingIn}
 use Rattle.stylinggrammar.proofs.RecordLaws.{record-laws}
+use Rattle.stylinggrammar.proofs.Tests.{true-false}
 use Rattle.stylinggrammar.specs.Styled.{dashAt}
-use Rattle.styling.specs.Reading.{styledOf, styledReading}
+use Rattle.styling.specs.Reading.{styledOf, styledReading, recordLeft}
 use Rattle.styling.specs.Transcription.{styledTranscription}
 use Rattle.styling.specs.Writing.{recordRead, sameNumbers, isRecord, writing}
-use Rattle.styling.specs.Laws.{RecordOf, ReadingLaws, WritingLaws, StyledTranscriptionLaws}
+use Rattle.styling.specs.Laws.{HasRecord, ReadingLaws, WritingLaws, StyledTranscriptionLaws}
 use Rattle.styling.proofs.Splits.{String, string-of, string-reads, Split, styled-split, split-styled, styled-counted, split-dash, split-sign, split-string}
 
 -- READING
@@ -50,9 +51,17 @@ sign-read set text p e =
     ap (λ r. readingOf set (onDone (λ p. p .0) r)) e
     ∙ ap (readingOf set) (sym (ap (signOf set) (split-sign set text (p .0) (p .1) s) ∙ written-reads set (p .0) (s .within)))
 
-record-read : (set : Charset) (text w : List ℕ) → RecordOf set text w → recordRead (drop (dashAt text) text) ≡ done w
-record-read set text w e =
-    let d = onDone-done (λ p. recordOf (meaning (p .1))) (styledOf set text) e in
+-- a text that is read as a record
+record-go : (set : Charset) (text w : List ℕ) → HasRecord set text w → (r : Result (Meaning × Spelling)) → styledOf set text ≡ r
+    → (p : Meaning × Spelling) × ((styledOf set text ≡ done p) × (recordOf (meaning (p .1)) ≡ w))
+unfolding readingOf
+record-go set text w h (refusal n p) e =
+    absurd (let z : n ≡ 0 = sym (ap (λ r. readingOf set (onDone (λ (k : Meaning × Spelling). k .0) r) .number) e) ∙ h .0 in omega (arith, styled-counted set text n p e))
+record-go set text w h (done p) e = (p, (e, sym (ap (recordLeft []) e) ∙ h .1 []))
+
+record-read : (set : Charset) (text w : List ℕ) → HasRecord set text w → recordRead (drop (dashAt text) text) ≡ done w
+record-read set text w h =
+    let d = record-go set text w h (styledOf set text) refl in
     let p = d .0 in
     split-record set text (p .0) (p .1) (styled-split set text p (d .1 .0)) ∙ ap done (d .1 .1)
 
@@ -67,11 +76,12 @@ join set text m string w e k =
     }
 
 joined : (set : Charset) (text : List ℕ) (m : Meaning) (string w : List ℕ) → signOf set text ≡ done m → recordRead string ≡ done w
-    → RecordOf set (text ++ string) w × (styledReading set (text ++ string) ≡ readingIn set text)
+    → HasRecord set (text ++ string) w × (styledReading set (text ++ string) ≡ readingIn set text)
+unfolding readingOf
 joined set text m string w e r =
     let k = string-of string w r in
     let y = split-styled set (text ++ string) m (k .spelling) (join set text m string w e k) in (
-      ap (onDone (λ p. recordOf (meaning (p .1)))) y ∙ ap done (k .is),
+      (ap (λ r. readingOf set (onDone (λ (p : Meaning × Spelling). p .0) r) .number) y, λ before. ap (recordLeft before) y ∙ k .is),
       ap (λ r. readingOf set (onDone (λ p. p .0) r)) y ∙ ap (readingOf set) (sym e),
     )
 
@@ -79,9 +89,6 @@ pub reading-laws : ReadingLaws
 reading-laws = record { sign = sign-read; styling = record-read; joined = joined }
 
 -- WRITING
-
-true-false : {X : Type 0} → true ≡ false → X
-true-false e = absurd (let z : _≡_ {A = ℕ} 0 1 = cc in omega arith)
 
 same-refl : (l : List ℕ) → sameNumbers l l ≡ true
 same-refl [] = refl
@@ -139,9 +146,6 @@ module _ (w text : List ℕ) (r : recordRead text ≡ done w) where
   unfolding writing
   writes-it = rw (true-record w (recordRead (tried w)) tried-reads)
 
-same-done : {u v : List ℕ} → done u ≡ done v → u ≡ v
-same-done e = cc
-
 refused-go : (w : List ℕ) (t : Bool) → isRecord w (recordRead (tried w)) ≡ t → ((text : List ℕ) → recordRead text ≡ done w → ⊥) → check t textWrong 0 (done (tried w)) ≡ refusal textWrong 0
 refused-go w true e n = absurd (n (tried w) (record-true w (recordRead (tried w)) e))
 refused-go w false e n = refl
@@ -177,10 +181,6 @@ writing-laws = record {
 }
 
 -- TRANSCRIPTION
-
-twice : (set : Charset) → otherSet (otherSet set) ≡ set
-twice Fsw = refl
-twice Swu = refl
 
 -- a text that has a transcription, and the two splits
 record Both (set : Charset) (text other : List ℕ) : Type 0 where

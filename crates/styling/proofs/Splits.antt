@@ -1,49 +1,40 @@
 -- A styled text that is read, and its two parts.
 use Prim.Native.Nat.{ℕ, _≤_}
-use mathlib.Core.Path.{_≡_, refl, sym, ap, _∙_}
-use mathlib.Core.List.{List, _∷_, _++_}
-use mathlib.Core.Bool.{true}
+use mathlib.Core.Path.{_≡_, ap, _∙_}
+use mathlib.Core.List.{List, _++_}
 use lib.Dec.{leb, lit<}
 use lib.ListN.{length, take, drop}
 use lib.Seq.{take-append-seam, drop-append-seam}
-use native.Mathlib.Omega.{arith}
 use borrow.Author.Tests.{leb-true, le-leb}
-use Rattle.format.specs.Places.{Outcome, fine, refused, endsShort, reading}
+use Rattle.format.specs.Places.{fine, reading}
 use Rattle.charset.specs.declared.Charset.{Charset}
 use Rattle.charset.specs.Tokens.{tokens}
 use Rattle.grammar.specs.Sign.{Meaning, Valid, sign, signText}
-use Rattle.token.specs.Refusal.{prefixLong, signboxLong, zoomWrong, nameLong, stylesMany}
-use Rattle.token.specs.Result.{Result, done, onDone, check, andThen, ofOutcome}
+use Rattle.grammar.proofs.SignLaws.{sign-fine}
+use Rattle.token.specs.Refusal.{prefixLong, signboxLong, zoomOutside, colourLong, stylesLong}
+use Rattle.token.specs.Result.{done, onDone, check, andThen, ofOutcome}
 use Rattle.token.proofs.Checks.{check-done, onDone-done, andThen-done, Counted, done-counted, check-counted, andThen-counted, onDone-counted, outcome-counted}
+use Rattle.token.proofs.Results.{outcome-done, same-done}
 use Rattle.reader.specs.Signs.{withinLimits}
 use Rattle.sign.proofs.Packed.{Within}
 use Rattle.stylinggrammar.specs.Styling.{Spelling, styling}
 use Rattle.stylinggrammar.specs.Meaning.{zoomsGood, namesGood, stylesFew, meaning}
 use Rattle.stylinggrammar.specs.StylingLaws.{Accepted}
-use Rattle.stylinggrammar.proofs.StylingLaws.{styling-laws}
 use Rattle.stylinggrammar.specs.Record.{recordOf}
 use Rattle.stylinggrammar.specs.Styled.{dashAt, readStyled}
 use Rattle.stylinggrammar.proofs.Dashes.{dash-of}
 use Rattle.stylinggrammar.proofs.Begun.{body}
-use Rattle.stylinggrammar.proofs.StyledLaws.{styled-laws, sign-fines, sign-plain}
+use Rattle.stylinggrammar.proofs.StyledLaws.{styled-laws, sign-plain}
 use Rattle.styling.specs.Reading.{stylingLimits, styledLimits, styledOf}
 use Rattle.styling.specs.Writing.{recordRead}
-
-pub outcome-done : {A : Type 0} (size : ℕ) (o : Outcome A) (v : A) → ofOutcome size o ≡ done v → o ≡ fine v
-outcome-done size (fine k) v e = let z : k ≡ v = cc in ap fine z
-outcome-done size (refused p) v e = absurd (let z : _≡_ {A = ℕ} 0 1 = cc in omega arith)
-outcome-done size endsShort v e = absurd (let z : _≡_ {A = ℕ} 0 1 = cc in omega arith)
-
-same-done : {A : Type 0} {v u : A} → done v ≡ done u → v ≡ u
-same-done e = cc
 
 -- THE LIMITS OF A STYLING
 
 limits-inv : (t u : Spelling) → stylingLimits t ≡ done u → Accepted t × (t ≡ u)
 limits-inv t u e =
-    let p = check-done (zoomsGood t) zoomWrong 0 (check (namesGood t) nameLong 0 (check (stylesFew t) stylesMany 0 (done t))) e in
-    let q = check-done (namesGood t) nameLong 0 (check (stylesFew t) stylesMany 0 (done t)) (p .1) in
-    let r = check-done (stylesFew t) stylesMany 0 (done t) (q .1) in
+    let p = check-done (zoomsGood t) zoomOutside 0 (check (namesGood t) colourLong 0 (check (stylesFew t) stylesLong 0 (done t))) e in
+    let q = check-done (namesGood t) colourLong 0 (check (stylesFew t) stylesLong 0 (done t)) (p .1) in
+    let r = check-done (stylesFew t) stylesLong 0 (done t) (q .1) in
     (record { zooms = p .0; names = q .0; few = r .0 }, same-done (r .1))
 
 pub limits-done : (t : Spelling) → Accepted t → stylingLimits t ≡ done t
@@ -51,9 +42,9 @@ limits-done t a = rw (a .zooms, a .names, a .few)
 
 limits-counted : (t : Spelling) → Counted (stylingLimits t)
 limits-counted t =
-    check-counted (zoomsGood t) zoomWrong 0 (check (namesGood t) nameLong 0 (check (stylesFew t) stylesMany 0 (done t))) (lit< tt)
-    (check-counted (namesGood t) nameLong 0 (check (stylesFew t) stylesMany 0 (done t)) (lit< tt)
-    (check-counted (stylesFew t) stylesMany 0 (done t) (lit< tt) (done-counted t)))
+    check-counted (zoomsGood t) zoomOutside 0 (check (namesGood t) colourLong 0 (check (stylesFew t) stylesLong 0 (done t))) (lit< tt)
+    (check-counted (namesGood t) colourLong 0 (check (stylesFew t) stylesLong 0 (done t)) (lit< tt)
+    (check-counted (stylesFew t) stylesLong 0 (done t) (lit< tt) (done-counted t)))
 
 -- A STYLING STRING BY ITSELF
 
@@ -142,7 +133,7 @@ styled-counted set text =
 module _ (set : Charset) (text : List ℕ) (m : Meaning) (t : Spelling) (s : Split set text m t) where
   pub split-dash : dashAt text ≡ length (signText set m)
   split-dash =
-      dash-of (tokens set .unit) (sign set) (sign-fines set) (sign-plain set) text
+      dash-of (tokens set .unit) (sign set) (sign-fine set) (sign-plain set) text
       (record { says = m; valid = s .within .valid; after = body t; is = s .is })
 
   pub split-sign : take (dashAt text) text ≡ signText set m

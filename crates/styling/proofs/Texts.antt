@@ -1,9 +1,9 @@
 -- Reading a styled text into arrays: one law for each return.
 use Prim.Native.Nat.{ℕ, suc, _+_, _-_, _≤_, _<_}
-use mathlib.Core.List.{List, [], _∷_, _++_}
+use mathlib.Core.List.{List, _∷_, _++_}
 use mathlib.Core.Path.{_≡_, refl, sym, ap, _∙_}
 use mathlib.Core.Bool.{Bool, true, false}
-use lib.Dec.{leb, ltb}
+use lib.Dec.{leb}
 use lib.ListN.{length, getD, take, drop, length-drop}
 use lib.Seq.{drop-cons, take-all}
 use native.Mathlib.Omega.{arith}
@@ -15,11 +15,12 @@ use Rattle.format.proofs.At.{Got, got}
 use Rattle.format.proofs.Ends.{reading-at}
 use Rattle.charset.specs.declared.Charset.{Charset}
 use Rattle.charset.specs.Tokens.{tokens}
-use Rattle.grammar.specs.Sign.{Meaning, Valid, sign, signText, readSign}
+use Rattle.grammar.specs.Sign.{Meaning, sign, signText, readSign}
 use Rattle.grammar.proofs.Sign.{sign-lawful}
+use Rattle.grammar.proofs.SignLaws.{sign-fine}
 use Rattle.token.specs.Padded.{padded}
-use Rattle.token.specs.Refusal.{textWrong, textShort, prefixLong, signboxLong, zoomWrong, nameLong, stylesMany}
-use Rattle.token.specs.Result.{Result, refusal, done, onDone, check, andThen, ofOutcome, ofLocated, resultAt}
+use Rattle.token.specs.Refusal.{textShort, prefixLong, signboxLong, zoomOutside, colourLong, stylesLong}
+use Rattle.token.specs.Result.{done, onDone, check, andThen, ofOutcome, ofLocated}
 use Rattle.reader.specs.declared.arrays.Head.{Head}
 use Rattle.reader.specs.Signs.{withinLimits}
 use Rattle.reader.specs.Inner.{headOf, noHead, HoldsSymbols, ReadAs, whole, limited, SignInto, TextInto}
@@ -32,7 +33,7 @@ use Rattle.stylinggrammar.specs.Styled.{dashAt, undashed, dashed, split, readBo
 use Rattle.stylinggrammar.specs.StyledLaws.{Dashed}
 use Rattle.stylinggrammar.proofs.Dashes.{dash-of, reads-dashed}
 use Rattle.stylinggrammar.proofs.Mixed.{stylings}
-use Rattle.stylinggrammar.proofs.StyledLaws.{sign-fines, sign-plain}
+use Rattle.stylinggrammar.proofs.StyledLaws.{sign-plain}
 use Rattle.styling.specs.Reading.{styledLimits, styledOf}
 use Rattle.styling.specs.Inner.{StyledInto, refusedAs, undashedHead, judgedHead, placedAt}
 
@@ -63,7 +64,7 @@ module _ (set : Charset) (s : List ℕ) (at : ℕ) (m : Meaning) (h : Head) (arr
   sign-limits t = rw (v .head) (limits-go t (leb (length (m .prefix)) 32) (leb (length (m .symbols)) 64) refl refl)
 
   styling-go : (t : Spelling) (z n w : Bool)
-      → ReadAs (onDone (λ (k : Meaning × Spelling). (k .0, dashAt s)) (andThen (check z zoomWrong 0 (check n nameLong 0 (check w stylesMany 0 (done t)))) λ t. onDone (λ k. (k, t)) (withinLimits m)))
+      → ReadAs (onDone (λ (k : Meaning × Spelling). (k .0, dashAt s)) (andThen (check z zoomOutside 0 (check n colourLong 0 (check w stylesLong 0 (done t)))) λ t. onDone (λ k. (k, t)) (withinLimits m)))
       (judgedHead (record { number = 0; place = 0; zooms = z; names = n; few = w }) at h) array codes xs ys
   unfolding judgedHead
   styling-go t true true true = sign-limits t
@@ -203,9 +204,6 @@ module _ (set : Charset) (s : List ℕ) (h : Head) (array codes xs ys : List ℕ
   there : Got (sign set) s 0 (sign-read .meaning) (h .place)
   there = got (tokens set .unit) (sign set) (sign-lawful set) s 0 (omega arith) (sign-read .meaning) (h .place) (sign-read .is)
 
-  pub sign-ends : h .place ≤ length s
-  sign-ends = there .room
-
   text-is : s ≡ signText set (sign-read .meaning) ++ drop (h .place) s
   text-is = rw (there .reads) at (sign-lawful set .says s) .0
 
@@ -225,12 +223,12 @@ module _ (set : Charset) (s : List ℕ) (h : Head) (array codes xs ys : List ℕ
     reads : readStyled set s ≡ dashed (h .place) (sign-read .meaning) (reading 1 styling (drop (h .place) s))
     reads =
         ap (readStyled set) text-split
-        ∙ reads-dashed (tokens set .unit) (sign set) (sign-fines set) (sign-plain set) (sign-read .meaning) (there .valid) (drop (suc (h .place)) s)
+        ∙ reads-dashed (tokens set .unit) (sign set) (sign-fine set) (sign-plain set) (sign-read .meaning) (there .valid) (drop (suc (h .place)) s)
         ∙ (λ i. dashed (sym size i) (sign-read .meaning) (reading 1 styling (sym rest-is i)))
 
-    dash-there : dashAt s ≡ h .place
+    pub dash-there : dashAt s ≡ h .place
     unfolding dash
-    dash-there = dash-of (tokens set .unit) (sign set) (sign-fines set) (sign-plain set) s dash ∙ sym size
+    dash-there = dash-of (tokens set .unit) (sign set) (sign-fine set) (sign-plain set) s dash ∙ sym size
 
     pub into-dash : (f : Found) (r : Head) → FoundAt s (h .place) f → r ≡ judgedHead f (h .place) h → StyledInto set s r array codes xs ys
     into-dash f r k q =

@@ -4,7 +4,7 @@ use mathlib.Core.List.{List}
 use lib.ListN.{length}
 use Rattle.charset.specs.declared.Charset.{Charset}
 use Rattle.grammar.specs.Sign.{Meaning}
-use Rattle.token.specs.Refusal.{zoomWrong, nameLong, stylesMany}
+use Rattle.token.specs.Refusal.{zoomOutside, colourLong, stylesLong}
 use Rattle.token.specs.Result.{Result, refusal, done, onDone, check, andThen, ofOutcome}
 use Rattle.reader.specs.Signs.{withinLimits}
 use Rattle.sign.specs.declared.Reading.{Reading}
@@ -17,9 +17,9 @@ use Rattle.stylinggrammar.specs.Styled.{readStyled}
 -- the limits of a styling, in the order of their numbers over the whole of it
 abbrev pub stylingLimits : Spelling → Result Spelling
 stylingLimits t =
-    check (zoomsGood t) zoomWrong 0
-    (check (namesGood t) nameLong 0
-    (check (stylesFew t) stylesMany 0
+    check (zoomsGood t) zoomOutside 0
+    (check (namesGood t) colourLong 0
+    (check (stylesFew t) stylesLong 0
     (done t)))
 
 -- then those of the sign

@@ -7,6 +7,7 @@ ghost use Rattle.styling.specs.Transcription.{styledTranscription};
 ghost use Rattle.styling.specs.Writing.{writing};
 use charset::Charset;
 use sign::Reading;
+use stylinggrammar::layout::LONGEST;
 use token::Written;
 use token::refusal::DONE;
 use token::refusal::ROOM_SHORT;
@@ -35,13 +36,22 @@ pub fn read_styled(set: Charset, s: &[u8], styling: &mut [u16; 3472]) -> Reading
     let mut codes = [0u16; 64];
     let mut xs = [0u16; 64];
     let mut ys = [0u16; 64];
-    let h = text::styled_into(set, s, &mut prefix, &mut codes, &mut xs, &mut ys);
+    let mut draft = [0u16; 504];
+    let h = text::styled_into(
+        set,
+        s,
+        &mut prefix,
+        &mut codes,
+        &mut xs,
+        &mut ys,
+        &mut draft,
+    );
     let number = h.number;
     let place = h.place;
     if number != DONE {
         return sign::packing::no_sign(number, place);
     }
-    text::fill(&s[place..], styling);
+    text::fill(&s[place..], &draft, styling);
     sign::packing::packed(set, h, prefix, codes, xs, ys)
 }
 
@@ -54,7 +64,16 @@ pub fn transcribe_styled(set: Charset, s: &[u8], out: &mut [u8]) -> Written
     let mut codes = [0u16; 64];
     let mut xs = [0u16; 64];
     let mut ys = [0u16; 64];
-    let h = text::styled_into(set, s, &mut prefix, &mut codes, &mut xs, &mut ys);
+    let mut nothing = [0u16; 1];
+    let h = text::styled_into(
+        set,
+        s,
+        &mut prefix,
+        &mut codes,
+        &mut xs,
+        &mut ys,
+        &mut nothing[0..0],
+    );
     let number = h.number;
     let place = h.place;
     if number != DONE {
@@ -93,7 +112,7 @@ pub fn write_styling(styling: &[u16; 3472], out: &mut [u8]) -> Written
     ensures answer { λ r. ⌜ r ≡ written (now (out .entry)) (writing (now (styling .entry))) ⌝ }
     ensures memory { λ r. ⌜ now (out .exit) ≡ output (now (out .entry)) (writing (now (styling .entry))) ⌝ }
 {
-    let mut text = [0u8; 3600];
+    let mut text = [0u8; LONGEST];
     let size = stylingwriter::writing::put_styling(styling, &mut text);
     if !records::reads_as(&text[0..size], styling) {
         return refused(TEXT_WRONG, 0);

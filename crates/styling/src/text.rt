@@ -1,24 +1,24 @@
 // Reading a styled text into lent arrays, and its styling into a record.
 ghost use mathlib.Core.Path.{_≡_};
 ghost use Prim.Native.Nat.{_+_, _≤_};
-ghost use lib.ListN.{length, drop};
 ghost use Rattle.token.specs.Padded.{zeros};
-ghost use Rattle.stylingreader.specs.Reading.{stylingFrom, foundOf};
+ghost use Rattle.stylingreader.specs.Reading.{stylingFrom};
 ghost use Rattle.stylinggrammar.specs.Styled.{dashAt};
-ghost use Rattle.styling.specs.Inner.{StyledInto, undashedHead, judgedHead, Ready, recordIn};
+ghost use Rattle.styling.specs.Inner.{StyledInto, DraftInto, undashedHead, judgedHead, Ready, recordIn};
 use charset::Charset;
 use reader::arrays::Head;
 use reader::arrays::no_head;
 use reader::arrays::sign_into;
 use reader::arrays::text_into;
 use reader::arrays::within_limits;
+use sign::copying::put;
 use stylingreader::reading::Found;
 use stylingreader::reading::styling_at;
+use token::refusal::COLOUR_LONG;
 use token::refusal::DONE;
-use token::refusal::NAME_LONG;
-use token::refusal::STYLES_MANY;
+use token::refusal::STYLES_LONG;
 use token::refusal::TEXT_SHORT;
-use token::refusal::ZOOM_WRONG;
+use token::refusal::ZOOM_OUTSIDE;
 
 // Where the first dash stands, or the length of the text.
 fn dash_at(s: &[u8]) -> usize
@@ -50,7 +50,7 @@ fn undashed(set: Charset, s: &[u8]) -> Head
     no_head(TEXT_SHORT, s.len())
 }
 
-// A sign and the styling found after it, at an offset of a text of so many bytes: all that is refused, in its order.
+// A sign and the styling found after it at an offset: all that is refused, in its order.
 fn judged(f: Found, at: usize, h: Head) -> Head
     requires { ⌜ at + f .place ≤ 18446744073709551615 ⌝ }
     ensures { λ r. ⌜ r ≡ judgedHead f at h ⌝ }
@@ -60,13 +60,13 @@ fn judged(f: Found, at: usize, h: Head) -> Head
         return no_head(number, at + f.place);
     }
     if !f.zooms {
-        return no_head(ZOOM_WRONG, 0);
+        return no_head(ZOOM_OUTSIDE, 0);
     }
     if !f.names {
-        return no_head(NAME_LONG, 0);
+        return no_head(COLOUR_LONG, 0);
     }
     if !f.few {
-        return no_head(STYLES_MANY, 0);
+        return no_head(STYLES_LONG, 0);
     }
     let l = within_limits(h);
     let refused = l.number;
@@ -84,14 +84,6 @@ fn judged(f: Found, at: usize, h: Head) -> Head
     }
 }
 
-// What reading the styling string of a text tells; nothing is kept.
-fn look(s: &[u8]) -> Found
-    ensures { λ r. ⌜ r ≡ foundOf (stylingFrom (now (s .entry)) 0) ⌝ }
-{
-    let mut nothing = [0u16; 1];
-    styling_at(s, 0, &mut nothing[0..0])
-}
-
 // The text is split at its first dash, and what stands before it read as a whole sign.
 fn split_into(
     set: Charset,
@@ -100,9 +92,11 @@ fn split_into(
     codes: &mut [u16; 64],
     xs: &mut [u16; 64],
     ys: &mut [u16; 64],
+    draft: &mut [u16],
 ) -> Head
     requires { ⌜ (now prefix ≡ zeros 32) × (now codes ≡ zeros 64) × (now xs ≡ zeros 64) × (now ys ≡ zeros 64) ⌝ }
-    ensures { λ r. ⌜ StyledInto set (now (s .entry)) r (now (prefix .exit)) (now (codes .exit)) (now (xs .exit)) (now (ys .exit)) ⌝ }
+    ensures sign { λ r. ⌜ StyledInto set (now (s .entry)) r (now (prefix .exit)) (now (codes .exit)) (now (xs .exit)) (now (ys .exit)) ⌝ }
+    ensures styling { λ r. ⌜ DraftInto set (now (s .entry)) (now (draft .entry)) (now (draft .exit)) ⌝ }
 {
     let at = dash_at(s);
     if s.len() <= at {
@@ -113,11 +107,12 @@ fn split_into(
     if number != DONE {
         return undashed(set, s);
     }
-    judged(look(&s[at..]), at, h)
+    judged(styling_at(&s[at..], 0, draft), at, h)
 }
 
-// Reads a styled text into lent arrays of zeros. Mostly the sign that stands at the start ends at the dash, and no byte is looked
-// at twice; otherwise, as where less than a character of SWU is left after the sign, the text is split first.
+// Reads a styled text into lent arrays of zeros, and its styling into a draft of any length: what lies beyond its end is not stored.
+// Mostly the sign that stands at the start ends at the dash, and no byte is looked at twice; otherwise, as where less than a
+// character of SWU is left after the sign, the text is split first.
 pub fn styled_into(
     set: Charset,
     s: &[u8],
@@ -125,9 +120,11 @@ pub fn styled_into(
     codes: &mut [u16; 64],
     xs: &mut [u16; 64],
     ys: &mut [u16; 64],
+    draft: &mut [u16],
 ) -> Head
     requires { ⌜ (now prefix ≡ zeros 32) × (now codes ≡ zeros 64) × (now xs ≡ zeros 64) × (now ys ≡ zeros 64) ⌝ }
-    ensures { λ r. ⌜ StyledInto set (now (s .entry)) r (now (prefix .exit)) (now (codes .exit)) (now (xs .exit)) (now (ys .exit)) ⌝ }
+    ensures sign { λ r. ⌜ StyledInto set (now (s .entry)) r (now (prefix .exit)) (now (codes .exit)) (now (xs .exit)) (now (ys .exit)) ⌝ }
+    ensures styling { λ r. ⌜ DraftInto set (now (s .entry)) (now (draft .entry)) (now (draft .exit)) ⌝ }
 {
     let h = sign_into(set, s, prefix, codes, xs, ys);
     let number = h.number;
@@ -135,7 +132,7 @@ pub fn styled_into(
     if number == DONE {
         if at < s.len() {
             if s[at] == b'-' {
-                return judged(look(&s[at..]), at, h);
+                return judged(styling_at(&s[at..], 0, draft), at, h);
             }
         }
     }
@@ -143,14 +140,20 @@ pub fn styled_into(
     *codes = [0u16; 64];
     *xs = [0u16; 64];
     *ys = [0u16; 64];
-    split_into(set, s, prefix, codes, xs, ys)
+    split_into(set, s, prefix, codes, xs, ys, draft)
 }
 
-// Fills a record with a styling that is within its limits.
-pub fn fill(s: &[u8], styling: &mut [u16; 3472])
-    requires { ⌜ Ready (now s) ⌝ }
+// Fills a record with a styling that is within its limits: from its draft, and where that has no room for all of its symbol styles,
+// from the text.
+pub fn fill(s: &[u8], draft: &[u16], styling: &mut [u16; 3472])
+    requires { ⌜ Ready (now s) (now draft) ⌝ }
     ensures { λ _. ⌜ now (styling .exit) ≡ recordIn (stylingFrom (now (s .entry)) 0) ⌝ }
 {
     *styling = [0u16; 3472];
+    let n = draft[4] as usize;
+    if n <= 8 {
+        put(styling, 0, &draft[0..80 + 53 * n]);
+        return;
+    }
     styling_at(s, 0, styling);
 }

@@ -10,16 +10,16 @@ use lib.ListN.{length, take, drop, length-append}
 use lib.Seq.{getD-append-add, drop-append-add, take-append-seam}
 use native.Mathlib.Omega.{arith}
 use borrow.Author.Tests.{ne-eqb}
-use Rattle.format.specs.Format.{All, Any, choose}
+use Rattle.format.specs.Format.{All, Any, choose, every}
 use Rattle.format.specs.Numeral.{Range}
-use Rattle.stylinggrammar.specs.Word.{every}
+use Rattle.format.proofs.Lists.{every-all}
 use Rattle.stylinggrammar.specs.Styling.{among, letter, hexadecimal, isColour, Detail}
 use Rattle.stylinggrammar.specs.Meaning.{Style, coloured, zoomed, Styling, Colour, ValidDetail, ValidStyle, Valid}
-use Rattle.stylinggrammar.proofs.Tests.{false-true, which, among-range, every-all}
+use Rattle.stylinggrammar.proofs.Tests.{false-true, which, among-range}
 use Rattle.stylinggrammar.proofs.Colours.{colour-as}
 use Rattle.token.specs.Padded.{padded}
+use Rattle.token.proofs.PaddedLists.{padded-zero, padded-first, padded-append}
 use Rattle.stylinggrammar.specs.Record.{colorizeNumber, paddingNumber, zoomNumber, colourNumbers, detailCount, detailNumbers, styleNumbers, stylesNumbers, recordOf, numberAt, colourAt, orNone, colourAtOrNone, detailIn, rowAt, styleAt, stylesFrom, stylingIn}
-use Rattle.stylinggrammar.proofs.Padding.{padded-append, padded-first, padded-zero}
 use Rattle.stylinggrammar.proofs.RecordBlocks.{counts, blocks, record-blocks, colour-size, style-size, styles-size, before-rows, before-rows-size}
 
 -- THE BYTES OF A COLOUR

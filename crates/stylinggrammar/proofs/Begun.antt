@@ -3,7 +3,6 @@ use Prim.Native.Nat.{ℕ, _+_, _≤_}
 use mathlib.Core.List.{List, [], _∷_, _++_, append-assoc, append-nil}
 use mathlib.Core.Path.{_≡_, refl, sym, ap, _∙_}
 use mathlib.Core.Bool.{Bool, true, false}
-use mathlib.Core.Logic.{_↔_}
 use mathlib.Core.Option.{none}
 use lib.Dec.{ltb}
 use lib.ListN.{length, take, drop, length-append, take-append-drop}
@@ -12,10 +11,11 @@ use native.Mathlib.Omega.{arith}
 use borrow.Author.Tests.{ltb-true, ltb-false}
 use Rattle.format.specs.Format.{Format}
 use Rattle.format.specs.Places.{Begins, Formed}
+use Rattle.format.proofs.Lists.{cons-head, cons-tail}
 use Rattle.stylinggrammar.specs.Styling.{Spelling, parts, ofSpelling, styling}
 use Rattle.stylinggrammar.specs.Styled.{styled}
 use Rattle.stylinggrammar.specs.StyledLaws.{Dashed}
-use Rattle.stylinggrammar.proofs.Dashes.{Plain, cons-head, same-front}
+use Rattle.stylinggrammar.proofs.Dashes.{Plain, same-front}
 
 -- the styling that says nothing is a dash
 abbrev bare : Spelling
@@ -29,9 +29,6 @@ body t = parts .write (ofSpelling t)
 data Meets (a b x more : List ℕ) : Type 0 where
   within : (m : List ℕ) → a ≡ x ++ m → Meets a b x more
   beyond : (y : List ℕ) → x ≡ a ++ y → b ≡ y ++ more → Meets a b x more
-
-cons-tail : {a b : ℕ} {x y : List ℕ} → a ∷ x ≡ b ∷ y → x ≡ y
-cons-tail e = cc
 
 meets : (a b x more : List ℕ) → a ++ b ≡ x ++ more → Meets a b x more
 meets [] b x more e = beyond x refl e

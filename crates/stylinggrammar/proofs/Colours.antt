@@ -1,19 +1,21 @@
 -- A colour is an exact word, which no byte but a letter or a digit goes on with.
 use Prim.Native.Nat.{ℕ, zero, suc, _+_, _-_, _≤_}
 use mathlib.Core.List.{List, [], _∷_, _++_, append-nil}
-use mathlib.Core.Path.{_≡_, refl, ap, _∙_}
-use mathlib.Core.Bool.{Bool, true, false, _&&_, _||_}
+use mathlib.Core.Path.{_≡_, refl, sym, ap, _∙_}
+use mathlib.Core.Bool.{Bool, true, false, _&&_, _||_, and-false, and-eq-true-iff}
 use mathlib.Core.Logic.{_⊎_, inl, inr}
 use lib.Dec.{eqb, leb}
 use lib.ListN.{length, length-append}
 use native.Mathlib.Omega.{arith}
 use borrow.Author.Tests.{le-leb, leb-true, eqb-true, eq-eqb}
+use Rattle.format.specs.Format.{every}
 use Rattle.format.proofs.Lawful.{Lawful}
 use Rattle.format.proofs.Exact.{Exact}
-use Rattle.format.proofs.Loop.{Open}
-use Rattle.stylinggrammar.specs.Word.{every, Stops}
+use Rattle.format.proofs.Lists.{every-append, every-snoc}
+use Rattle.format.proofs.Open.{Open}
+use Rattle.stylinggrammar.specs.Word.{Stops}
 use Rattle.stylinggrammar.specs.Styling.{letter, hexadecimal, isColour, beginsColour, colour}
-use Rattle.stylinggrammar.proofs.Tests.{both, each, one-left, one-right, which, every-append, every-front, every-not}
+use Rattle.stylinggrammar.proofs.Tests.{one-left, one-right, which}
 use Rattle.stylinggrammar.proofs.Words.{Spells, word-exact, word-open}
 
 -- the two ways to be a colour
@@ -21,13 +23,13 @@ letters-colour : (c : List ℕ) → every letter c ≡ true → 1 ≤ length c �
 unfolding isColour
 letters-colour c e k =
     one-left (every letter c && leb 1 (length c)) (every hexadecimal c && (eqb (length c) 3 || eqb (length c) 6))
-    (both (every letter c) (leb 1 (length c)) e (le-leb 1 (length c) k))
+    (and-eq-true-iff (every letter c) (leb 1 (length c)) .1 (e, le-leb 1 (length c) k))
 
 digits-colour : (c : List ℕ) → every hexadecimal c ≡ true → (length c ≡ 3) ⊎ (length c ≡ 6) → isColour c ≡ true
 unfolding isColour
 digits-colour c e k =
     one-right (every letter c && leb 1 (length c)) (every hexadecimal c && (eqb (length c) 3 || eqb (length c) 6))
-    (both (every hexadecimal c) (eqb (length c) 3 || eqb (length c) 6) e (size k))
+    (and-eq-true-iff (every hexadecimal c) (eqb (length c) 3 || eqb (length c) 6) .1 (e, size k))
   where
     size : (length c ≡ 3) ⊎ (length c ≡ 6) → (eqb (length c) 3 || eqb (length c) 6) ≡ true
     size (inl z) = one-left (eqb (length c) 3) (eqb (length c) 6) (eq-eqb (length c) 3 z)
@@ -40,7 +42,7 @@ letters-begin c e = one-left (every letter c) (every hexadecimal c && leb (lengt
 digits-begin : (c : List ℕ) → every hexadecimal c ≡ true → length c ≤ 6 → beginsColour c ≡ true
 unfolding beginsColour
 digits-begin c e k =
-    one-right (every letter c) (every hexadecimal c && leb (length c) 6) (both (every hexadecimal c) (leb (length c) 6) e (le-leb (length c) 6 k))
+    one-right (every letter c) (every hexadecimal c && leb (length c) 6) (and-eq-true-iff (every hexadecimal c) (leb (length c) 6) .1 (e, le-leb (length c) 6 k))
 
 -- and what begins or is one is one of the two
 pub begins-as : (c : List ℕ) → beginsColour c ≡ true → (every letter c ≡ true) ⊎ ((every hexadecimal c ≡ true) × (length c ≤ 6))
@@ -49,7 +51,7 @@ begins-as c e = go (which (every letter c) (every hexadecimal c && leb (length c
   where
     go : (every letter c ≡ true) ⊎ ((every hexadecimal c && leb (length c) 6) ≡ true) → (every letter c ≡ true) ⊎ ((every hexadecimal c ≡ true) × (length c ≤ 6))
     go (inl p) = inl p
-    go (inr p) = let k = each (every hexadecimal c) (leb (length c) 6) p in inr (k .0, leb-true (length c) 6 (k .1))
+    go (inr p) = let k = and-eq-true-iff (every hexadecimal c) (leb (length c) 6) .0 p in inr (k .0, leb-true (length c) 6 (k .1))
 
 pub colour-as : (c : List ℕ) → isColour c ≡ true → (every letter c ≡ true) ⊎ ((every hexadecimal c ≡ true) × (length c ≤ 6))
 unfolding isColour
@@ -61,9 +63,9 @@ colour-as c e = go (which (every letter c && leb 1 (length c)) (every hexadecima
 
     go : ((every letter c && leb 1 (length c)) ≡ true) ⊎ ((every hexadecimal c && (eqb (length c) 3 || eqb (length c) 6)) ≡ true)
         → (every letter c ≡ true) ⊎ ((every hexadecimal c ≡ true) × (length c ≤ 6))
-    go (inl p) = inl (each (every letter c) (leb 1 (length c)) p .0)
+    go (inl p) = inl (and-eq-true-iff (every letter c) (leb 1 (length c)) .0 p .0)
     go (inr p) =
-        let k = each (every hexadecimal c) (eqb (length c) 3 || eqb (length c) 6) p in
+        let k = and-eq-true-iff (every hexadecimal c) (eqb (length c) 3 || eqb (length c) 6) .0 p in
         inr (k .0, size (which (eqb (length c) 3) (eqb (length c) 6) (k .1)))
 
 no-colour : isColour [] ≡ false
@@ -81,8 +83,8 @@ earlier : (c d : List ℕ) → beginsColour (c ++ d) ≡ true → beginsColour c
 earlier c d e = go (begins-as (c ++ d) e)
   where
     go : (every letter (c ++ d) ≡ true) ⊎ ((every hexadecimal (c ++ d) ≡ true) × (length (c ++ d) ≤ 6)) → beginsColour c ≡ true
-    go (inl p) = letters-begin c (every-front letter c d p)
-    go (inr p) = digits-begin c (every-front hexadecimal c d (p .0)) (omega (arith, p .1, length-append c d))
+    go (inl p) = letters-begin c (and-eq-true-iff (every letter c) (every letter d) .0 (sym (every-append letter c d) ∙ p) .0)
+    go (inr p) = digits-begin c (and-eq-true-iff (every hexadecimal c) (every hexadecimal d) .0 (sym (every-append hexadecimal c d) ∙ p .0) .0) (omega (arith, p .1, length-append c d))
 
 -- WHAT COMPLETES A COLOUR: a letter where nothing was read, zeros after hexadecimal digits
 
@@ -108,7 +110,7 @@ letters-complete [] e = (97 ∷ [], a-colour)
 letters-complete (a ∷ c) e = ([], ap isColour (append-nil (a ∷ c)) ∙ letters-colour (a ∷ c) e (omega arith))
 
 zeros-complete : (c : List ℕ) (n : ℕ) → every hexadecimal c ≡ true → (length c + n ≡ 3) ⊎ (length c + n ≡ 6) → isColour (c ++ zeros n) ≡ true
-zeros-complete c n e k = digits-colour (c ++ zeros n) (every-append hexadecimal c (zeros n) e (zeros-digits n)) (go k)
+zeros-complete c n e k = digits-colour (c ++ zeros n) (every-append hexadecimal c (zeros n) ∙ and-eq-true-iff (every hexadecimal c) (every hexadecimal (zeros n)) .1 (e, zeros-digits n)) (go k)
   where
     size : length (c ++ zeros n) ≡ length c + n
     size = length-append c (zeros n) ∙ ap (λ m. length c + m) (zeros-length n)
@@ -143,6 +145,10 @@ pub colour-lawful : Lawful 1 colour
 colour-lawful = colour-open .lawful
 
 -- WHAT ENDS A COLOUR
+
+-- one that fails is enough
+every-not : (test : ℕ → Bool) (c : List ℕ) (b : ℕ) → test b ≡ false → every test (c ++ (b ∷ [])) ≡ false
+every-not test c b e = every-snoc test c b ∙ ap (λ t. every test c && t) e ∙ and-false (every test c)
 
 not-begun : (c : List ℕ) (b : ℕ) → letter b ≡ false → hexadecimal b ≡ false → beginsColour (c ++ (b ∷ [])) ≡ false
 unfolding beginsColour

@@ -11,10 +11,11 @@ use native.Mathlib.Omega.{arith}
 use borrow.Author.Tests.{ne-eqb, eqb-true, lt-ltb, ltb-true, ltb-false}
 use Rattle.format.specs.Format.{Format, All, choose}
 use Rattle.format.specs.Places.{Outcome, fine, refused, endsShort, reading}
+use Rattle.format.proofs.Lists.{cons-head, cons-tail}
 use Rattle.stylinggrammar.specs.Styling.{Spelling, styling}
 use Rattle.stylinggrammar.specs.Styled.{dashAt, undashed, dashed, split, readBoth}
 use Rattle.stylinggrammar.specs.StyledLaws.{Dashed}
-use Rattle.stylinggrammar.proofs.NoDash.{Over}
+use Rattle.grammar.proofs.SignBytes.{Over}
 
 -- a text without a dash
 abbrev pub Plain : List ℕ → Type 0
@@ -23,12 +24,6 @@ Plain bytes = All (λ b. b ≡ 45 → ⊥) bytes
 pub over-plain : (l : List ℕ) → Over l → Plain l
 over-plain [] h = tt
 over-plain (b ∷ l) h = (λ e. omega (arith, h .0), over-plain l (h .1))
-
-pub cons-head : {a b : ℕ} {x y : List ℕ} → a ∷ x ≡ b ∷ y → a ≡ b
-cons-head e = cc
-
-pub cons-tail : {a b : ℕ} {x y : List ℕ} → a ∷ x ≡ b ∷ y → x ≡ y
-cons-tail e = cc
 
 -- the first dash is where it is
 pub dash-at : (a b : List ℕ) → Plain a → dashAt (a ++ (45 ∷ b)) ≡ length a

@@ -1,5 +1,5 @@
 -- Filled part by part, zeros become the record of what is meant.
-use Prim.Native.Nat.{ℕ, zero, suc, _+_, _-_, _*_, _≤_, _<_, min}
+use Prim.Native.Nat.{ℕ, suc, _+_, _-_, _*_, _≤_, _<_, min}
 use native.Mathlib.Nat.{zero-add}
 use mathlib.Core.List.{List, [], _∷_, _++_, map, append-assoc, append-nil}
 use mathlib.Core.Option.{Option, none, some}
@@ -9,14 +9,16 @@ use lib.Seq.{sets, take-all, set-at}
 use native.Mathlib.Omega.{arith}
 use Rattle.format.specs.Format.{All, Any}
 use Rattle.format.specs.Numeral.{Range}
+use Rattle.format.proofs.Lists.{all-parts}
 use Rattle.stylinggrammar.specs.Styling.{Detail, Decimal, Symbols, Spelling, styling}
 use Rattle.stylinggrammar.specs.Meaning.{Style, given, present, cents, hundredths, colourStyle, zoomStyle, stylesOf, meaning, Colour, ValidDetail, ValidStyle, Valid}
 use Rattle.stylinggrammar.specs.StylingLaws.{Accepted}
 use Rattle.stylinggrammar.proofs.Spellings.{meaning-valid}
 use Rattle.token.specs.Padded.{padded, zeros}
+use Rattle.token.proofs.PaddedLists.{padded-length, padded-none, padded-zero, padded-first, padded-append, zeros-append, sets-padded}
 use Rattle.stylinggrammar.specs.Record.{recordSize, colorizeNumber, paddingNumber, zoomNumber, colourNumbers, detailCount, detailNumbers, styleNumbers, stylesNumbers, recordOf, rowAt}
 use Rattle.stylinggrammar.specs.Filling.{putMaybe, putColour, putDetail, zoomWord, rowOf, putColours, putZoom, putRows, putSymbols, putStyling}
-use Rattle.stylinggrammar.proofs.Padding.{padded-append, padded-first, padded-zero, padded-none, zeros-append, set-after, sets-after, sets-before, sets-cons, sets-padded, padded-length}
+use Rattle.stylinggrammar.proofs.Stores.{set-after, sets-after, sets-before, sets-cons}
 use Rattle.stylinggrammar.proofs.RecordBlocks.{counts, blocks, record-blocks, colour-size, style-size, styles-size, before-rows, before-rows-size, style-none, zeros-blocks}
 
 -- A COLOUR
@@ -26,7 +28,7 @@ bytes-put : (c after : List ℕ) → length c ≤ 24 → sets (colourNumbers non
 bytes-put c after h =
     sets-before (colourNumbers none) after 1 c (omega (arith, padded-length 25 []))
     ∙ ap (λ l. sets l 1 c ++ after) (padded-zero 24)
-    ∙ ap (λ l. l ++ after) (sets-cons 0 (padded 24 []) 0 c ∙ ap (λ l. 0 ∷ l) (sets-padded 24 c))
+    ∙ ap (λ l. l ++ after) (sets-cons 0 (padded 24 []) 0 c ∙ ap (λ l. 0 ∷ l) (sets-padded 24 c []))
 
 colour-put : (before : List ℕ) (n : ℕ) → length before ≡ n → (c after : List ℕ) → length c ≤ 24
     → putColour n c (before ++ (colourNumbers none ++ after)) ≡ before ++ (colourNumbers (some c) ++ after)
@@ -108,10 +110,6 @@ rows-put put of one (a ∷ l) ok before k m e h =
     ∙ ap (putRows put (k + 1) l) (one before k (omega arith) e rest a (ok .0) ∙ sym (append-assoc before s rest))
     ∙ rows-put put of one l (ok .1) (before ++ s) (k + 1) m place (omega arith)
     ∙ ap (λ o. o ++ padded (53 * m) []) (append-assoc before s more)
-
-all-parts : {A : Type 0} (P : A → Type 0) (l m : List A) → All P (l ++ m) → All P l × All P m
-all-parts P [] m ok = (tt, ok)
-all-parts P (a ∷ l) m ok = let k = all-parts P l m (ok .1) in ((ok .0, k .0), k .1)
 
 styles-append : (l m : List Style) → stylesNumbers (l ++ m) ≡ stylesNumbers l ++ stylesNumbers m
 styles-append [] m = refl

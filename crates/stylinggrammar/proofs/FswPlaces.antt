@@ -5,32 +5,31 @@ use mathlib.Core.Path.{_≡_, refl, sym, ap, subst, _∙_}
 use mathlib.Core.Bool.{Bool, true, false}
 use mathlib.Core.Logic.{_⊎_, inl, inr, _↔_}
 use lib.Dec.{ltb}
-use lib.ListN.{length, take, drop, length-append}
+use lib.ListN.{length, take, drop}
 use lib.Seq.{take-all}
 use native.Mathlib.Omega.{arith}
 use borrow.Author.Tests.{ltb-true, ltb-false}
 use Rattle.format.specs.Format.{All}
 use Rattle.format.specs.Numeral.{Range}
-use Rattle.format.specs.Places.{Begins, Formed, Outcome, fine, refused, endsShort, reading, FirstWrong, Unfinished}
-use Rattle.format.specs.Numbers.{InNumber, Place, stays, moves, ByNumbers}
-use Rattle.format.proofs.Places.{begins-less}
+use Rattle.format.specs.Places.{Begins, Outcome, fine, refused, endsShort, reading, FirstWrong, Unfinished}
+use Rattle.format.specs.Numbers.{InNumber, Place, stays, moves}
+use Rattle.format.proofs.Places.{begins-less, refused-bytes, short-bytes}
 use Rattle.charset.specs.declared.Charset.the-variants.{Fsw}
 use Rattle.charset.specs.Tokens.{fswNumber}
 use Rattle.grammar.specs.Sign.{Meaning, Valid, sign, signText}
 use Rattle.grammar.specs.SignLaws.{SignNumber}
-use Rattle.grammar.proofs.SignLaws.{sign-laws}
+use Rattle.grammar.proofs.SignLaws.{sign-fine}
 use Rattle.grammar.proofs.SignPlaces.{fsw-places}
 use Rattle.stylinggrammar.specs.Styling.{Spelling}
 use Rattle.stylinggrammar.specs.Styled.{styled, undashed, readStyled}
 use Rattle.stylinggrammar.specs.StyledLaws.{Dashed, FswPlaces}
-use Rattle.stylinggrammar.proofs.NoDash.{sign-over}
-use Rattle.stylinggrammar.proofs.FirstWrongs.{refused-bytes, short-bytes}
+use Rattle.grammar.proofs.SignBytes.{sign-over}
 use Rattle.stylinggrammar.proofs.Dashes.{Plain, over-plain, reads-undashed, dash-case}
 use Rattle.stylinggrammar.proofs.Begun.{sign-begins, dash-begins, front-take, begins-sign, undashed-unformed}
 use Rattle.stylinggrammar.proofs.Mixed.{bytes-exactly}
 
 fines : (text : List ℕ) (m : Meaning) → (reading 1 (sign Fsw) text ≡ fine m) ↔ (Valid m × (text ≡ signText Fsw m))
-fines text m = (λ e. sign-laws Fsw .writes text m e, λ k. ap (reading 1 (sign Fsw)) (k .1) ∙ sign-laws Fsw .reads m (k .0))
+fines = sign-fine Fsw
 
 plain : (m : Meaning) → Valid m → Plain (signText Fsw m)
 plain m ok = over-plain (signText Fsw m) (sign-over Fsw m)
@@ -173,6 +172,7 @@ module _ (text : List ℕ) (never : Dashed (sign Fsw) text → ⊥) where
 
 pub fsw-styled : FswPlaces
 fsw-styled = record {
+  stands = λ x k n ok. sign-begins (sign Fsw) plain (x ++ fswNumber .write n) (fsw-places .stands x k n ok);
   wrong = λ text p. wrong-go text p (dash-case 1 (sign Fsw) fines plain text);
   short = λ text. short-case text (dash-case 1 (sign Fsw) fines plain text);
 }

@@ -12,18 +12,15 @@ use Rattle.format.specs.Format.{Format}
 use Rattle.format.specs.Places.{Whole, Outcome, fine, refused, endsShort, reading, Means}
 use Rattle.stylinggrammar.specs.Styling.{Spelling, styling}
 use Rattle.stylinggrammar.proofs.Styling.{styling-exact, styling-ready}
-use Rattle.format.proofs.Places.{exactly}
+use Rattle.format.proofs.Places.{exactly, one-outcome}
+use Rattle.format.proofs.Reading.{same-fine}
 use Rattle.stylinggrammar.specs.Styled.{styled, undashed, dashed, readBoth}
 use Rattle.stylinggrammar.specs.StyledLaws.{Dashed, Mixed}
-use Rattle.stylinggrammar.proofs.Outcomes.{one-outcome}
 use Rattle.stylinggrammar.proofs.Dashes.{Plain, reads-dashed, reads-undashed, dash-case, fine-dashed}
 use Rattle.stylinggrammar.proofs.Begun.{body, parts-same, sign-begins, after-begins, begins-after, formed-after, front-take, begins-sign, undashed-unformed}
 
 pub stylings : (text : List ℕ) (o : Outcome Spelling) → (reading 1 styling text ≡ o) ↔ Means 1 styling text o
 stylings = exactly 1 styling styling-exact styling-ready
-
-same-fine : {A : Type 0} {v u : A} → fine v ≡ fine u → v ≡ u
-same-fine e = cc
 
 module _ {A : Type 0} (w : ℕ) (f : Format A) (fines : (text : List ℕ) (m : A) → (reading w f text ≡ fine m) ↔ (f .Valid m × (text ≡ f .write m)))
     (plain : (v : A) → f .Valid v → Plain (f .write v)) where

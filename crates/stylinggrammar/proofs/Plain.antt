@@ -1,17 +1,17 @@
 -- The plain reader refuses the dash after a whole sign.
-use Prim.Native.Nat.{ℕ, suc, _+_, _-_, _*_, _≤_, _<_}
-use mathlib.Core.List.{List, [], _∷_, _++_, append-nil, append-assoc}
+use Prim.Native.Nat.{ℕ, suc, _+_, _*_, _<_}
+use mathlib.Core.List.{List, [], _∷_, _++_, append-nil}
 use mathlib.Core.Path.{_≡_, refl, sym, ap, _∙_}
 use mathlib.Core.Bool.{Bool, true, false}
-use mathlib.Core.Logic.{_↔_}
 use lib.Dec.{ltb}
-use lib.ListN.{length, take, drop, length-append}
+use lib.ListN.{length, take, length-append}
 use lib.Seq.{take-append-seam, take-all}
 use native.Mathlib.Omega.{arith}
 use borrow.Author.Tests.{ltb-true, ltb-false, le-ltb}
 use Rattle.format.specs.Format.{value, other, choose, many}
-use Rattle.format.specs.Places.{Begins, Formed, Outcome, refused, endsShort, outcome, reading, whole, Means}
+use Rattle.format.specs.Places.{Begins, Formed, refused, endsShort, whole, Means}
 use Rattle.format.proofs.Unit.{unit-below}
+use Rattle.format.proofs.Begun.{absent-other}
 use Rattle.charset.specs.declared.Charset.{Charset}
 use Rattle.charset.specs.declared.Charset.the-variants.{Fsw, Swu}
 use Rattle.charset.specs.Bytes.{byteOf}
@@ -19,10 +19,10 @@ use Rattle.charset.specs.Tokens.{fsw, tokens, key, lastWriting}
 use Rattle.charset.proofs.Sets.{lawful}
 use Rattle.charset.proofs.Units.{after-other}
 use Rattle.grammar.specs.Sign.{Meaning, Valid, Parts, spatial, parts, point, ofMeaning, sign, signText, readSign}
-use Rattle.grammar.proofs.Sign.{all-follow, absent-other, sequence-other, prefix-follow, spatial-fixed, lead-fixed, sound, alike, sign-lawful}
+use Rattle.grammar.proofs.Sign.{all-follow, sequence-other, prefix-follow, spatial-fixed, lead-fixed, sound, alike, sign-lawful}
 use Rattle.grammar.proofs.SignLaws.{sign-laws}
-use Rattle.stylinggrammar.proofs.NoDash.{sign-over}
-use Rattle.stylinggrammar.proofs.Dashes.{Plain, over-plain}
+use Rattle.grammar.proofs.SignBytes.{sign-over}
+use Rattle.stylinggrammar.proofs.Dashes.{over-plain}
 use Rattle.stylinggrammar.proofs.FswPlaces.{not-plain, plain-front}
 
 -- no symbol begins with a dash

@@ -8,8 +8,8 @@ use native.Mathlib.Omega.{arith}
 use Rattle.stylinggrammar.specs.Styling.{Detail}
 use Rattle.stylinggrammar.specs.Meaning.{Style, coloured, zoomed, Styling}
 use Rattle.token.specs.Padded.{padded, zeros}
+use Rattle.token.proofs.PaddedLists.{padded-length, padded-none, zeros-append}
 use Rattle.stylinggrammar.specs.Record.{recordSize, colorizeNumber, paddingNumber, zoomNumber, colourNumbers, detailCount, lineOf, fillOf, detailNumbers, styleNumbers, stylesNumbers, recordOf}
-use Rattle.stylinggrammar.proofs.Padding.{padded-length, padded-none, zeros-append}
 
 -- five numbers before a list
 abbrev pub counts : ℕ → ℕ → ℕ → ℕ → ℕ → List ℕ → List ℕ

@@ -5,4 +5,4 @@ use Rattle.stylinggrammar.proofs.Back.{record-back}
 use Rattle.stylinggrammar.proofs.Fills.{record-fills}
 
 pub record-laws : RecordLaws
-record-laws = record { size = λ s v. record-size s; back = record-back; fills = record-fills }
+record-laws = record { size = record-size; back = record-back; fills = record-fills }

@@ -6,13 +6,12 @@ use mathlib.Core.Bool.{true}
 use mathlib.Core.Option.{Option, none, some}
 use lib.ListN.{length, length-append}
 use native.Mathlib.Omega.{arith}
-use Rattle.format.specs.Format.{All, optional, many}
+use Rattle.format.specs.Format.{All, optional, many, every}
+use Rattle.format.proofs.Lists.{every-all}
 use Rattle.charset.specs.Bytes.{byte, after}
-use Rattle.stylinggrammar.specs.Word.{every}
 use Rattle.stylinggrammar.specs.Styling.{background, Detail, detail, Decimal, decimal, twoDigits, symbolColours, symbolZoom, Symbols, fromSymbols, Spelling, styling}
 use Rattle.stylinggrammar.specs.Meaning.{Style, given, present, hundredths, colourStyle, zoomStyle, stylesOf, meaning, ifAny, goodZoom, decimalOf, colourTexts, zoomTexts, symbolsOf, letterIf, spelled, stylingText}
 use Rattle.stylinggrammar.specs.StylingLaws.{Accepted}
-use Rattle.stylinggrammar.proofs.Tests.{every-all}
 use Rattle.stylinggrammar.proofs.Zooms.{zoom-shortest, zoom-unique}
 use Rattle.stylinggrammar.proofs.Spellings.{zoom-tests}
 
@@ -21,7 +20,7 @@ use Rattle.stylinggrammar.proofs.Spellings.{zoom-tests}
 abbrev respelled : ℕ × Decimal → ℕ × Decimal
 respelled p = (p .0, decimalOf (hundredths (p .1)))
 
-zoom-style-length : (n : ℕ) (z : Decimal) → length (symbolZoom .write (n, z)) ≡ length (twoDigits .write n) + suc (suc (length (decimal .write z)))
+pub zoom-style-length : (n : ℕ) (z : Decimal) → length (symbolZoom .write (n, z)) ≡ length (twoDigits .write n) + suc (suc (length (decimal .write z)))
 zoom-style-length n z =
     let k : length (twoDigits .write n ++ (44 ∷ decimal .write z)) ≡ length (twoDigits .write n) + suc (length (decimal .write z)) =
     length-append (twoDigits .write n) (44 ∷ decimal .write z) in
@@ -91,7 +90,7 @@ some-styles (x ∷ l) h = refl
 symbols-again : (s : Symbols) → 1 ≤ length (stylesOf (some s)) → symbolsOf (stylesOf (some s)) ≡ some (s .0, zoomTexts (map zoomStyle (s .1)))
 symbols-again s h = some-styles (stylesOf (some s)) h ∙ λ i. some (colours-same (s .0) (s .1) i, zooms-past (s .0) (s .1) i)
 
-abbrev symbolsText : Option Symbols → List ℕ
+abbrev pub symbolsText : Option Symbols → List ℕ
 symbolsText = fromSymbols .write
 
 module _ (s : Symbols) (ok : fromSymbols .Valid (some s)) (e : every (λ p. goodZoom (p .1)) (s .1) ≡ true) (h : 1 ≤ length (stylesOf (some s))) where
@@ -131,7 +130,7 @@ symbols-unique (some (p ∷ l, m)) ok e h = lists-unique (p ∷ l, m) ok e (omeg
 
 -- THE ZOOM OF THE WHOLE, AND COLORIZE
 
-abbrev zoomText : Option Decimal → List ℕ
+abbrev pub zoomText : Option Decimal → List ℕ
 zoomText = optional (after 90 decimal) .write
 
 zoom-part-shortest : (o : Option Decimal) → optional (after 90 decimal) .Valid o → ifAny goodZoom o ≡ true
@@ -153,7 +152,7 @@ colorize-same (some b) ok = ap some (omega (arith, ok .0, ok .1))
 -- THE WHOLE
 
 -- the bytes of colorize, padding, background and detail colours, which are spelled in one way
-abbrev lead : Option ℕ → Spelling → ℕ
+abbrev pub lead : Option ℕ → Spelling → ℕ
 lead c t =
     length (optional (byte 67) .write c)
     + (length (optional (after 80 twoDigits) .write (t .padding)) + (length (optional (after 71 background) .write (t .background)) + length (optional (after 68 detail) .write (t .detail))))
@@ -169,7 +168,7 @@ six a b c d e f =
       length-append e f,
     )
 
-styling-length : (t : Spelling) → length (styling .write t) ≡ suc (lead (t .colorize) t + (length (zoomText (t .zoom)) + length (symbolsText (t .symbols))))
+pub styling-length : (t : Spelling) → length (styling .write t) ≡ suc (lead (t .colorize) t + (length (zoomText (t .zoom)) + length (symbolsText (t .symbols))))
 styling-length t =
     ap suc (six (optional (byte 67) .write (t .colorize)) (optional (after 80 twoDigits) .write (t .padding)) (optional (after 71 background) .write (t .background))
     (optional (after 68 detail) .write (t .detail)) (zoomText (t .zoom)) (symbolsText (t .symbols)))

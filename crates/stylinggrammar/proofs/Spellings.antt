@@ -2,21 +2,19 @@
 use Prim.Native.Nat.{ℕ, _≤_}
 use mathlib.Core.List.{List, [], _∷_, _++_, map}
 use mathlib.Core.Path.{_≡_, refl, ap, _∙_}
-use mathlib.Core.Bool.{Bool, true, false}
+use mathlib.Core.Bool.{Bool, true, false, and-eq-true-iff}
 use mathlib.Core.Option.{Option, none, some}
 use lib.Dec.{leb}
 use lib.ListN.{length}
 use native.Mathlib.Omega.{arith}
 use borrow.Author.Tests.{le-leb, leb-true}
-use Rattle.format.specs.Format.{All, Any, optional, many}
+use Rattle.format.specs.Format.{All, Any, optional, many, every}
 use Rattle.format.specs.Numeral.{Range}
-use Rattle.format.proofs.Lists.{all-append}
+use Rattle.format.proofs.Lists.{all-append, every-all, all-every}
 use Rattle.charset.specs.Bytes.{byte, after}
-use Rattle.stylinggrammar.specs.Word.{every}
 use Rattle.stylinggrammar.specs.Styling.{colour, background, Detail, detail, Decimal, decimal, twoDigits, symbolColours, symbolZoom, Symbols, fromSymbols, Spelling, styling}
 use Rattle.stylinggrammar.specs.Meaning.{Style, coloured, zoomed, Styling, given, present, hundredths, colourStyle, zoomStyle, stylesOf, meaning, ifAny, goodZoom, shortName, shortDetail, zoomsGood, namesGood, stylesFew, Colour, ValidDetail, ValidStyle, Zooms, Ordered, Valid, decimalOf, colourTexts, zoomTexts, symbolsOf, letterIf, spelled}
 use Rattle.stylinggrammar.specs.StylingLaws.{Accepted}
-use Rattle.stylinggrammar.proofs.Tests.{both, each, every-all, all-every}
 use Rattle.stylinggrammar.proofs.Zooms.{zoom-back, zoom-valid, zoom-good, zoom-range}
 
 -- COLOURS
@@ -33,7 +31,7 @@ fill-short none ok = refl
 fill-short (some c) ok = le-leb (length c) 24 (ok .1)
 
 detail-short : (d : Detail) → ValidDetail d → shortDetail d ≡ true
-detail-short d ok = both (shortName (d .0)) (ifAny shortName (d .1)) (le-leb (length (d .0)) 24 (ok .0 .1)) (fill-short (d .1) (ok .1))
+detail-short d ok = and-eq-true-iff (shortName (d .0)) (ifAny shortName (d .1)) .1 (le-leb (length (d .0)) 24 (ok .0 .1), fill-short (d .1) (ok .1))
 
 fill-sayable : (f : Option (List ℕ)) → optional (after 44 colour) .Valid f → ifAny shortName f ≡ true → Any Colour f
 fill-sayable none ok e = tt
@@ -41,7 +39,7 @@ fill-sayable (some c) ok e = (ok, leb-true (length c) 24 e)
 
 detail-sayable : (d : Detail) → detail .Valid d → shortDetail d ≡ true → ValidDetail d
 detail-sayable d ok e =
-    let k = each (shortName (d .0)) (ifAny shortName (d .1)) e in
+    let k = and-eq-true-iff (shortName (d .0)) (ifAny shortName (d .1)) .0 e in
     ((ok .0, leb-true (length (d .0)) 24 (k .0)), fill-sayable (d .1) (ok .1) (k .1))
 
 -- STYLES OF SYMBOLS AS THEY ARE SPELLED
@@ -146,7 +144,7 @@ module _ (s : Styling) (v : Valid s) where
 
   zooms-accepted : zoomsGood (spelled s) ≡ true
   unfolding zoomsGood
-  zooms-accepted = both _ _ (one (s .zoom) (v .zoom)) (rest (s .symbols) (v .symbols))
+  zooms-accepted = and-eq-true-iff _ _ .1 (one (s .zoom) (v .zoom), rest (s .symbols) (v .symbols))
     where
       one : (z : Option ℕ) → Any (Range 1 9999) z → ifAny goodZoom (given decimalOf z) ≡ true
       one none ok = refl
@@ -158,7 +156,7 @@ module _ (s : Styling) (v : Valid s) where
 
   names-accepted : namesGood (spelled s) ≡ true
   unfolding namesGood
-  names-accepted = both _ _ (fill-short (s .background) (v .background)) (both _ _ (two (s .detail) (v .detail)) (rest (s .symbols) (v .symbols)))
+  names-accepted = and-eq-true-iff _ _ .1 (fill-short (s .background) (v .background), and-eq-true-iff _ _ .1 (two (s .detail) (v .detail), rest (s .symbols) (v .symbols)))
     where
       two : (d : Option Detail) → Any ValidDetail d → ifAny shortDetail d ≡ true
       two none ok = refl
@@ -230,12 +228,12 @@ zoom-sayable (some k) e = zoom-range k e
 module _ (t : Spelling) (a : Accepted t) where
   pub zoom-tests : (ifAny goodZoom (t .zoom) ≡ true) × (ifAny (λ s. every (λ p. goodZoom (p .1)) (s .1)) (t .symbols) ≡ true)
   unfolding zoomsGood
-  zoom-tests = each _ _ (a .zooms)
+  zoom-tests = and-eq-true-iff _ _ .0 (a .zooms)
 
   name-tests : (ifAny shortName (t .background) ≡ true)
       × ((ifAny shortDetail (t .detail) ≡ true) × (ifAny (λ s. every (λ p. shortDetail (p .1)) (s .0)) (t .symbols) ≡ true))
   unfolding namesGood
-  name-tests = let k = each _ _ (a .names) in (k .0, each _ _ (k .1))
+  name-tests = let k = and-eq-true-iff _ _ .0 (a .names) in (k .0, and-eq-true-iff _ _ .0 (k .1))
 
   few-test : length (stylesOf (t .symbols)) ≤ 64
   unfolding stylesFew

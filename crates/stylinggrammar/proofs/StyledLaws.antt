@@ -1,25 +1,17 @@
 -- The laws of styled texts, in both character sets.
-use Prim.Native.Nat.{ℕ}
-use mathlib.Core.List.{List}
-use mathlib.Core.Path.{_≡_, ap, _∙_}
-use mathlib.Core.Logic.{_↔_}
 use native.Mathlib.Omega.{arith}
-use Rattle.format.specs.Places.{fine, reading}
 use Rattle.charset.specs.declared.Charset.{Charset}
 use Rattle.charset.specs.declared.Charset.the-variants.{Fsw, Swu}
 use Rattle.charset.specs.Tokens.{tokens}
-use Rattle.grammar.specs.Sign.{Meaning, Valid, sign, signText, readSign}
+use Rattle.grammar.specs.Sign.{Meaning, Valid, sign, signText}
 use Rattle.grammar.proofs.Sign.{sign-lawful}
-use Rattle.grammar.proofs.SignLaws.{sign-laws}
+use Rattle.grammar.proofs.SignLaws.{sign-laws, sign-fine}
 use Rattle.stylinggrammar.specs.StyledLaws.{StyledPlaces, StyledLaws}
-use Rattle.stylinggrammar.proofs.NoDash.{sign-over}
+use Rattle.grammar.proofs.SignBytes.{sign-over}
 use Rattle.stylinggrammar.proofs.Dashes.{Plain, over-plain}
 use Rattle.stylinggrammar.proofs.Mixed.{both-fines, mixed}
 use Rattle.stylinggrammar.proofs.FswPlaces.{fsw-styled}
 use Rattle.stylinggrammar.proofs.Plain.{plain-refused}
-
-pub sign-fines : (set : Charset) (text : List ℕ) (m : Meaning) → (readSign set text ≡ fine m) ↔ (Valid m × (text ≡ signText set m))
-sign-fines set text m = (λ e. sign-laws set .writes text m e, λ k. ap (readSign set) (k .1) ∙ sign-laws set .reads m (k .0))
 
 pub sign-plain : (set : Charset) (m : Meaning) → Valid m → Plain (signText set m)
 sign-plain set m ok = over-plain (signText set m) (sign-over set m)
@@ -30,7 +22,7 @@ places Swu = mixed 4 (sign Swu) (sign-laws Swu .places) (omega arith) (sign-lawf
 
 pub styled-laws : (set : Charset) → StyledLaws set
 styled-laws set = record {
-  fines = both-fines (tokens set .unit) (sign set) (sign-fines set) (sign-plain set);
+  fines = both-fines (tokens set .unit) (sign set) (sign-fine set) (sign-plain set);
   places = places set;
   plain = plain-refused set;
 }

@@ -12,14 +12,16 @@ use Rattle.format.proofs.Exact.{Exact}
 use Rattle.format.proofs.ExactParts.{sequence-exact, mapped-exact, optional-exact}
 use Rattle.format.proofs.ExactMany.{many-exact}
 use Rattle.format.proofs.Delimited.{Delimited, Strict, solid, optional-firm, sequence-firm, sequence-delimited}
-use Rattle.format.proofs.Loop.{Open, delimited-open}
 use Rattle.format.proofs.Unit.{unit-above}
+use Rattle.format.proofs.Open.{Open, delimited-open, sequence-open, many-firm}
+use Rattle.format.proofs.Begun.{absent-other}
 use Rattle.charset.specs.Bytes.{byteOf, digitOf, digitByte, byte, digit, after}
 use Rattle.charset.proofs.Coding.{byte-exact}
-use Rattle.charset.proofs.Units.{digit-strict, digits-strict, after-exact, after-delimited}
+use Rattle.charset.proofs.Units.{digit-strict, digits-strict, after-exact, after-delimited, after-firm, after-open}
+use Rattle.charset.proofs.FixedByte.{Not, byte-absent, after-absent}
 use Rattle.stylinggrammar.specs.Styling.{before, colour, background, Detail, lineAndFill, detail, Figures, figures, Decimal, decimal, twoDigits, symbolColours, symbolZoom, Symbols, symbols, fromSymbols, fromZoom, fromDetail, fromBackground, fromPadding, parts, Spelling, toSpelling, ofSpelling, styling}
 use Rattle.stylinggrammar.proofs.Colours.{colour-exact, colour-open, colour-lawful, comma-stops, underscore-stops}
-use Rattle.stylinggrammar.proofs.Bytes.{sequence-open, many-firm, after-firm, after-open, before-exact, before-delimited, Not, absent-other, byte-absent, after-absent, part-follow, part-not}
+use Rattle.stylinggrammar.proofs.Bytes.{before-exact, before-delimited, part-follow, part-not}
 
 -- BETWEEN UNDERSCORES
 
@@ -121,9 +123,6 @@ pub symbol-colours-exact : Exact 1 symbolColours
 symbol-colours-exact =
     after-exact 68 (sequence twoDigits λ n. detail) (sequence-exact 1 twoDigits (λ n. detail) (two-digits-strict .exact) λ n ok. detail-exact)
 
-pub symbol-colours-lawful : Lawful 1 symbolColours
-symbol-colours-lawful = symbol-colours-exact .lawful
-
 pub symbol-colours-delimited : Delimited 1 symbolColours
 symbol-colours-delimited =
     after-delimited 68 (sequence twoDigits λ n. detail) (sequence-delimited 1 twoDigits (λ n. detail) two-digits-delimited λ n ok. detail-delimited)
@@ -136,14 +135,11 @@ symbol-zoom-exact =
     after-exact 90 (sequence twoDigits λ n. after 44 decimal)
     (sequence-exact 1 twoDigits (λ n. after 44 decimal) (two-digits-strict .exact) λ n ok. after-exact 44 decimal decimal-exact)
 
-pub symbol-zoom-lawful : Lawful 1 symbolZoom
-symbol-zoom-lawful = symbol-zoom-exact .lawful
-
 pub symbol-zoom-open : Open 1 symbolZoom
 symbol-zoom-open =
     after-open 90 (sequence twoDigits λ n. after 44 decimal)
     (sequence-exact 1 twoDigits (λ n. after 44 decimal) (two-digits-strict .exact) (λ n ok. after-exact 44 decimal decimal-exact) .lawful)
-    (sequence-firm 1 twoDigits (λ n. after 44 decimal) two-digits-delimited λ n ok. after-firm 44 decimal (decimal-open .firm))
+    (sequence-firm 1 twoDigits (λ n. after 44 decimal) (two-digits-delimited .lawful) (solid 1 twoDigits two-digits-delimited) (two-digits-delimited .firm) λ n ok. after-firm 44 decimal (decimal-open .firm))
 
 pub many-colours-exact : Exact 1 (many symbolColours)
 many-colours-exact = many-exact 1 symbolColours symbol-colours-exact λ v ok. omega arith
@@ -153,9 +149,6 @@ many-zooms-exact = many-exact 1 symbolZoom symbol-zoom-exact λ v ok. omega arit
 
 pub symbols-exact : Exact 1 symbols
 symbols-exact = sequence-exact 1 (many symbolColours) (λ l. many symbolZoom) many-colours-exact λ l ok. many-zooms-exact
-
-pub symbols-lawful : Lawful 1 symbols
-symbols-lawful = symbols-exact .lawful
 
 -- THE STYLING STRING
 

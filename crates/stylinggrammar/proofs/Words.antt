@@ -11,7 +11,7 @@ use Rattle.format.specs.Places.{Begins}
 use Rattle.format.proofs.Lawful.{Says, Lawful}
 use Rattle.format.proofs.Exact.{Exact, Fails}
 use Rattle.format.proofs.Delimited.{same-rest, value-wrong, short-wrong, other-wrong}
-use Rattle.format.proofs.Loop.{Open}
+use Rattle.format.proofs.Open.{Open}
 use Rattle.charset.proofs.Coding.{by-test}
 use Rattle.stylinggrammar.specs.Word.{stopped, goOn, Stops, word}
 use Rattle.stylinggrammar.proofs.Tests.{true-false}

@@ -2,7 +2,7 @@
 use Prim.Native.Nat.{ℕ, suc, _+_, _/_, _%_, _≤_}
 use mathlib.Core.List.{List, [], _∷_}
 use mathlib.Core.Path.{_≡_, refl, sym, ap, _∙_}
-use mathlib.Core.Bool.{true}
+use mathlib.Core.Bool.{true, and-eq-true-iff}
 use mathlib.Core.Option.{Option, none, some}
 use lib.Dec.{eqb, ltb}
 use lib.ListN.{length, length-append}
@@ -14,7 +14,7 @@ use Rattle.charset.specs.Bytes.{digit, after}
 use Rattle.charset.proofs.Coding.{by-test}
 use Rattle.stylinggrammar.specs.Styling.{among, Figures, figures, Decimal, decimal}
 use Rattle.stylinggrammar.specs.Meaning.{onward, wholes, cents, hundredths, fewDecimals, goodZoom, wholeFigures, centFigures, decimalOf}
-use Rattle.stylinggrammar.proofs.Tests.{both, each, among-true, among-range}
+use Rattle.stylinggrammar.proofs.Tests.{among-true, among-range}
 
 -- WHAT IS WRITTEN FOR A ZOOM MEANS IT
 
@@ -50,12 +50,11 @@ zoom-valid n ok = (whole-valid (n / 100) (omega (arith, ok .1)), cent-valid (n %
 
 pub zoom-good : (n : ℕ) → Range 1 9999 n → goodZoom (decimalOf n) ≡ true
 zoom-good n ok =
-    both (fewDecimals (centFigures (n % 100))) (among 1 9999 (hundredths (decimalOf n))) (cent-few (n % 100))
-    (rw (zoom-back n ok) (among-true 1 9999 n ok))
+    and-eq-true-iff (fewDecimals (centFigures (n % 100))) (among 1 9999 (hundredths (decimalOf n))) .1 (cent-few (n % 100), rw (zoom-back n ok) (among-true 1 9999 n ok))
 
 good : (z : Decimal) → goodZoom z ≡ true → (fewDecimals (z .1) ≡ true) × Range 1 9999 (hundredths z)
 good z g =
-    let k = each (fewDecimals (z .1)) (among 1 9999 (hundredths z)) g in
+    let k = and-eq-true-iff (fewDecimals (z .1)) (among 1 9999 (hundredths z)) .0 g in
     (k .0, among-range 1 9999 (hundredths z) (k .1))
 
 pub zoom-range : (z : Decimal) → goodZoom z ≡ true → Range 1 9999 (hundredths z)
@@ -63,14 +62,14 @@ zoom-range z g = good z g .1
 
 -- HOW MANY BYTES ARE WRITTEN
 
-abbrev point : Option Figures → List ℕ
+abbrev pub point : Option Figures → List ℕ
 point o = optional (after 46 figures) .write o
 
-figure-length : (l : List ℕ) → length (many (digit 0 9) .write l) ≡ length l
+pub figure-length : (l : List ℕ) → length (many (digit 0 9) .write l) ≡ length l
 figure-length [] = refl
 figure-length (d ∷ l) = ap suc (figure-length l)
 
-zoom-length : (w : Figures) (o : Option Figures) → length (decimal .write (w, o)) ≡ suc (length (w .1)) + length (point o)
+pub zoom-length : (w : Figures) (o : Option Figures) → length (decimal .write (w, o)) ≡ suc (length (w .1)) + length (point o)
 zoom-length w o = length-append (figures .write w) (point o) ∙ ap (λ n. suc n + length (point o)) (figure-length (w .1))
 
 cents-below : (o : Option Figures) → optional (after 46 figures) .Valid o → cents o ≤ 99

@@ -5,5 +5,6 @@ pub mod StylingLaws
 pub mod Record
 pub mod Filling
 pub mod RecordLaws
+pub mod DraftLaws
 pub mod Styled
 pub mod StyledLaws

@@ -7,9 +7,8 @@ use mathlib.Core.Bool.{Bool, true, false, _&&_}
 use mathlib.Core.Option.{Option, none, some}
 use lib.Dec.{eqb, ltb, leb}
 use lib.ListN.{length}
-use Rattle.format.specs.Format.{All, Any, choose}
+use Rattle.format.specs.Format.{All, Any, choose, every}
 use Rattle.format.specs.Numeral.{Range}
-use Rattle.stylinggrammar.specs.Word.{every}
 use Rattle.stylinggrammar.specs.Styling.{among, isColour, Detail, Figures, Decimal, Symbols, Spelling, styling}
 
 -- the colours or the zoom of the symbol with a number

@@ -85,6 +85,10 @@ detailIn w = orNone (numberAt w 3) (colourAt w 30, choose (eqb (numberAt w 3) 1)
 abbrev pub rowAt : ℕ → ℕ
 rowAt k = 80 + 53 * k
 
+-- the start of a record with room for 8 symbol styles, which few stylings exceed
+abbrev pub draftSize : ℕ
+draftSize = 504
+
 abbrev pub styleAt : List ℕ → ℕ → Style
 styleAt w at =
     choose (eqb (numberAt w at) 1)

@@ -9,7 +9,7 @@ use Rattle.stylinggrammar.specs.Record.{recordSize, recordOf, stylingIn}
 use Rattle.stylinggrammar.specs.Filling.{putStyling}
 
 pub record RecordLaws : Type 0 where
-  pub size : (s : Styling) → Valid s → length (recordOf s) ≡ recordSize
+  pub size : (s : Styling) → length (recordOf s) ≡ recordSize
   -- a record has one styling
   pub back : (s : Styling) → Valid s → stylingIn (recordOf s) ≡ s
   -- filled part by part, zeros become the record of what is meant

@@ -1,16 +1,16 @@
 -- What is proved of signs with a styling.
-use Prim.Native.Nat.{ℕ, suc, _+_}
+use Prim.Native.Nat.{ℕ, suc}
 use mathlib.Core.Path.{_≡_}
 use mathlib.Core.List.{List, _∷_, _++_}
 use mathlib.Core.Logic.{_⊎_, _↔_}
 use lib.Dec.{ltb}
 use lib.ListN.{length}
 use Rattle.format.specs.Format.{Format, choose}
-use Rattle.format.specs.Places.{Outcome, fine, refused, endsShort, Means, Unfinished}
+use Rattle.format.specs.Places.{Begins, Outcome, fine, refused, endsShort, Means, Unfinished}
 use Rattle.format.specs.Numbers.{Place}
 use Rattle.charset.specs.declared.Charset.{Charset}
 use Rattle.charset.specs.declared.Charset.the-variants.{Fsw, Swu}
-use Rattle.charset.specs.Tokens.{tokens}
+use Rattle.charset.specs.Tokens.{fswNumber, tokens}
 use Rattle.grammar.specs.Sign.{Meaning, Valid, sign, signText, readSign}
 use Rattle.grammar.specs.SignLaws.{SignNumber}
 use Rattle.stylinggrammar.specs.Styling.{Spelling, styling}
@@ -25,6 +25,7 @@ pub record Dashed {A : Type 0} (f : Format A) (text : List ℕ) : Type 0 where
 
 -- THE LAW OF PLACES. In FSW it is that of document 01, byte by byte, and Q-5's in the numbers of the sign alone.
 pub record FswPlaces : Type 0 where
+  pub stands : (x : List ℕ) → SignNumber x → (n : ℕ) → fswNumber .Valid n → Begins (styled (sign Fsw)) (x ++ fswNumber .write n)
   pub wrong : (text : List ℕ) (p : ℕ) → (readStyled Fsw text ≡ refused p) ↔ Place (styled (sign Fsw)) SignNumber text p
   pub short : (text : List ℕ) → (readStyled Fsw text ≡ endsShort) ↔ Unfinished (styled (sign Fsw)) text
 

@@ -1,4 +1,5 @@
--- Document 001, 2.5: the styling string. Class names, IDs and any zoom beyond a plain number are no part of it (document 02, Q-1).
+-- Document 001, 2.5: the styling string, as far as document 02, Q-1, takes it: without what names classes and IDs, and with plain
+-- numbers for zooms.
 use Prim.Native.Nat.{ℕ}
 use Prim.Native.Char.{code}
 use mathlib.Core.List.{List, [], _∷_}
@@ -6,9 +7,9 @@ use mathlib.Core.Bool.{Bool, _&&_, _||_}
 use mathlib.Core.Option.{Option}
 use lib.Dec.{eqb, leb}
 use lib.ListN.{length}
-use Rattle.format.specs.Format.{Format, sequence, mapped, optional, many}
+use Rattle.format.specs.Format.{Format, sequence, mapped, optional, many, every}
 use Rattle.charset.specs.Bytes.{byte, digit, digits, after}
-use Rattle.stylinggrammar.specs.Word.{every, word}
+use Rattle.stylinggrammar.specs.Word.{word}
 
 -- a format and then a fixed byte
 abbrev pub before : {A : Type 0} → ℕ → Format A → Format A

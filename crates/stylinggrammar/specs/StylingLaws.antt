@@ -32,3 +32,10 @@ pub record StylingLaws : Type 0 where
   -- what is written is the shortest spelling: none that reads as the same is shorter, and no other is as short
   pub shortest : (text : List ℕ) (s : Styling) → Reads text s → length (stylingText s) ≤ length text
   pub unique : (text : List ℕ) (s : Styling) → Reads text s → length text ≤ length (stylingText s) → text ≡ stylingText s
+
+-- the longest text that is written has 3,547 bytes, and one is as long
+pub record LongestStyling : Type 0 where
+  pub most : (s : Styling) → Valid s → length (stylingText s) ≤ 3547
+  pub styling : Styling
+  pub valid : Valid styling
+  pub size : length (stylingText styling) ≡ 3547

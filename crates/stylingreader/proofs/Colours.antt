@@ -8,9 +8,11 @@ use lib.ListN.{length, take, drop, getD, set, length-append, length-drop, length
 use lib.Seq.{sets, drop-cons, take-all, take-append-le}
 use native.Mathlib.Omega.{arith}
 use borrow.Author.Tests.{lt-ltb, le-ltb, le-leb, lt-leb, ltb-true, ltb-false}
-use Rattle.format.specs.Format.{value, other, wrong, short, choose}
+use Rattle.format.specs.Format.{value, other, wrong, short, choose, every}
 use Rattle.format.specs.Located.{found, wrongAt, shortHere, located, locate}
-use Rattle.stylinggrammar.specs.Word.{every, stopped, goOn}
+use Rattle.format.proofs.Lists.{every-snoc}
+use Rattle.token.proofs.PaddedLists.{sets-append}
+use Rattle.stylinggrammar.specs.Word.{stopped, goOn}
 use Rattle.stylinggrammar.specs.Styling.{among, letter, hexadecimal, isColour, beginsColour, colour}
 use Rattle.stylinggrammar.specs.Filling.{putColour}
 use Rattle.stylingreader.specs.declared.part.Part.{Part}
@@ -27,10 +29,10 @@ among-below lo hi b h = rw (lt-leb lo b h)
 pub among-rest : (lo hi b : ℕ) → lo ≤ b → leb b hi ≡ among lo hi b
 among-rest lo hi b h = rw (le-leb lo b h)
 
-or-first : (a b t : Bool) → t ≡ a → t ≡ true → true ≡ (a || b)
+pub or-first : (a b t : Bool) → t ≡ a → t ≡ true → true ≡ (a || b)
 or-first a b t e y = rw (← e, y)
 
-or-second : (a b t r : Bool) → t ≡ a → t ≡ false → r ≡ b → r ≡ (a || b)
+pub or-second : (a b t r : Bool) → t ≡ a → t ≡ false → r ≡ b → r ≡ (a || b)
 or-second a b t r e n q = rw (← e, n) q
 
 pub letter-first : (b : ℕ) (t : Bool) → t ≡ among 65 90 b → t ≡ true → true ≡ letter b
@@ -45,13 +47,9 @@ pub hexadecimal-first : (b : ℕ) (t : Bool) → t ≡ among 48 57 b → t ≡ t
 unfolding hexadecimal
 hexadecimal-first b t = or-first (among 48 57 b) (among 65 70 b || among 97 102 b) t
 
-pub hexadecimal-second : (b : ℕ) (t u : Bool) → t ≡ among 48 57 b → t ≡ false → u ≡ among 65 70 b → u ≡ true → true ≡ hexadecimal b
+pub hexadecimal-rest : (b : ℕ) (t r : Bool) → t ≡ among 48 57 b → t ≡ false → r ≡ (among 65 70 b || among 97 102 b) → r ≡ hexadecimal b
 unfolding hexadecimal
-hexadecimal-second b t u e n q y = or-second (among 48 57 b) (among 65 70 b || among 97 102 b) t true e n (or-first (among 65 70 b) (among 97 102 b) u q y)
-
-pub hexadecimal-rest : (b : ℕ) (t u r : Bool) → t ≡ among 48 57 b → t ≡ false → u ≡ among 65 70 b → u ≡ false → r ≡ among 97 102 b → r ≡ hexadecimal b
-unfolding hexadecimal
-hexadecimal-rest b t u r e n q m z = or-second (among 48 57 b) (among 65 70 b || among 97 102 b) t r e n (or-second (among 65 70 b) (among 97 102 b) u r q m z)
+hexadecimal-rest b t r = or-second (among 48 57 b) (among 65 70 b || among 97 102 b) t r
 
 module _ (letters digits : Bool) (n : ℕ) (t : Bool) (e : t ≡ (letters && leb 1 n)) where
   pub whole-letters : t ≡ true → true ≡ isWhole letters digits n
@@ -81,10 +79,6 @@ kept-size o at n b = go (ltb n 24)
     go true = length-set o (at + 1 + n) b
     go false = refl
 
-sets-snoc : (xs : List ℕ) (b : ℕ) (l : List ℕ) (i : ℕ) → sets l i (xs ++ (b ∷ [])) ≡ set (sets l i xs) (i + length xs) b
-sets-snoc [] b l i = ap (λ j. set l j b) (omega arith)
-sets-snoc (x ∷ xs) b l i = sets-snoc xs b (set l i x) (suc i) ∙ ap (λ j. set (sets (set l i x) (suc i) xs) j b) (omega arith)
-
 kept-more : (o : List ℕ) (at : ℕ) (word : List ℕ) (b : ℕ)
     → keptByte (sets o (at + 1) (take 24 word)) at (length word) b ≡ sets o (at + 1) (take 24 (word ++ (b ∷ [])))
 unfolding keptByte
@@ -95,20 +89,8 @@ kept-more o at word b = go (ltb (length word) 24) refl
     go true e =
         let h : length word < 24 = ltb-true (length word) 24 e in
         let l = length-append word (b ∷ []) in
-        rw (take-all 24 word (omega arith), take-all 24 (word ++ (b ∷ [])) (omega arith)) (sym (sets-snoc word b o (at + 1)))
+        rw (take-all 24 word (omega arith), take-all 24 (word ++ (b ∷ [])) (omega arith)) (sets-append word (b ∷ []) o (at + 1))
     go false e = ap (sets o (at + 1)) (sym (take-append-le 24 word (b ∷ []) (ltb-false (length word) 24 e)))
-
-pub every-snoc : {A : Type 0} (test : A → Bool) (l : List A) (a : A) → every test (l ++ (a ∷ [])) ≡ (every test l && test a)
-every-snoc test [] a = go (test a)
-  where
-    go : (t : Bool) → (t && true) ≡ t
-    go true = refl
-    go false = refl
-every-snoc test (b ∷ l) a = ap (λ t. test b && t) (every-snoc test l a) ∙ go (test b) (every test l) (test a)
-  where
-    go : (p q r : Bool) → (p && (q && r)) ≡ ((p && q) && r)
-    go true q r = refl
-    go false q r = refl
 
 -- THE LOOP
 

@@ -1,14 +1,14 @@
--- Fixed bytes: one law for each return of a function that tests them.
+-- Fixed bytes: one law for and-eq-true-iff return of .0 a function that tests them.
 use Prim.Native.Nat.{ℕ, _+_, _≤_, _<_}
 use mathlib.Core.Path.{_≡_, sym, _∙_}
 use mathlib.Core.List.{List}
-use mathlib.Core.Bool.{Bool, true, false}
+use mathlib.Core.Bool.{Bool, true, false, and-eq-true-iff}
 use lib.Dec.{eqb, ltb}
 use lib.ListN.{length, getD}
 use native.Mathlib.Omega.{arith}
 use borrow.Author.Tests.{eq-eqb, ne-eqb, lt-ltb, le-ltb, ltb-true, eqb-true}
 use Rattle.token.specs.Refusal.{textWrong, textShort}
-use Rattle.stylinggrammar.proofs.Tests.{each, false-true}
+use Rattle.stylinggrammar.proofs.Tests.{false-true}
 use Rattle.stylingreader.specs.declared.part.Part.{Part}
 use Rattle.stylingreader.specs.Parts.{standsAt, failedPart, missingPart, closedPart}
 
@@ -27,7 +27,7 @@ pub record Stands (s : List ℕ) (at b : ℕ) : Type 0 where
 pub stands-so : (s : List ℕ) (at b : ℕ) → standsAt s at b ≡ true → Stands s at b
 unfolding standsAt
 stands-so s at b e =
-    let q = each (ltb at (length s)) (eqb (getD s at 0) b) e in
+    let q = and-eq-true-iff (ltb at (length s)) (eqb (getD s at 0) b) .0 e in
     record { inside = ltb-true at (length s) (q .0); is = eqb-true (getD s at 0) b (q .1) }
 
 pub stands-not : (s : List ℕ) (at b : ℕ) → standsAt s at b ≡ false → Stands s at b → ⊥

@@ -6,12 +6,14 @@ use mathlib.Core.Bool.{Bool, true, false, _&&_}
 use lib.ListN.{length, getD, set, length-append}
 use native.Mathlib.Omega.{arith}
 use borrow.Author.Tests.{lt-ltb}
-use Rattle.format.specs.Format.{Format, sequence}
+use Rattle.format.specs.Format.{Format, sequence, every}
 use Rattle.format.specs.Located.{Located, found, wrongAt, shortHere, locate}
 use Rattle.format.proofs.Lawful.{Lawful}
 use Rattle.format.proofs.Sequence.{sequence-lawful}
 use Rattle.format.proofs.At.{Strays, here, later}
-use Rattle.format.proofs.Loop.{Open, Walk, walk-start, strays, open-on, open-stop, open-end, open-bad, open-cut}
+use Rattle.format.proofs.Loop.{Walk, walk-start, strays, open-on, open-stop, open-end, open-bad, open-cut}
+use Rattle.format.proofs.Lists.{every-snoc}
+use Rattle.format.proofs.Open.{Open}
 use Rattle.charset.specs.Bytes.{after}
 use Rattle.charset.proofs.Units.{after-lawful}
 use Rattle.token.specs.declared.reading.Token.{Token}
@@ -19,7 +21,6 @@ use Rattle.token.specs.declared.reading.Token.the-variants.{Value, Wrong, Short
 use Rattle.token.specs.Token.{tokenAt}
 use Rattle.token.proofs.Told.{Told, told-wrong, told-short}
 use Rattle.token.proofs.Digits.{digits-told}
-use Rattle.stylinggrammar.specs.Word.{every}
 use Rattle.stylinggrammar.specs.Styling.{twoDigits, detail, decimal}
 use Rattle.stylinggrammar.proofs.Tests.{false-true, true-false}
 use Rattle.stylinggrammar.proofs.Styling.{two-digits-delimited, detail-lawful, decimal-lawful, symbol-colours-open, symbol-zoom-open}
@@ -28,8 +29,7 @@ use Rattle.stylingreader.specs.declared.part.Part.{Part}
 use Rattle.stylingreader.specs.Parts.{Taking, plain, PartIn, PartIs, both, joinedPart, standsAt, failedPart, passedPart, missingPart}
 use Rattle.stylingreader.specs.Takings.{takeNumber, takeDetail, takeZoom, colouring, ofZoom, zooming, takeColouring, takeZooming, sort, styles, takeStyles}
 use Rattle.stylingreader.proofs.Marks.{Stands, stands-other}
-use Rattle.stylingreader.proofs.Fixed.{after-there, after-missing, after-begun}
-use Rattle.stylingreader.proofs.Colours.{every-snoc}
+use Rattle.stylingreader.proofs.Fixed.{after-there, after-missing, begun-there}
 use Rattle.stylingreader.proofs.Chains.{Taken, taken, part-as, first-fails, joins, alike-part, after-fails, after-goes, part-beside}
 
 -- TWO DIGITS
@@ -187,7 +187,7 @@ module _ (zoomed : Bool) (s : List ℕ) (at from n i : ℕ) (zooms names : Bool)
     never-here j z k = go (strays 1 f (one-open zoomed) s i j z)
       where
         go : Strays f s i j → ⊥
-        go (here a d) = after-begun (sort zoomed .letter) (sort zoomed .style) s i begun d
+        go (here a d) = begun-there (sort zoomed .letter) (sort zoomed .style) s i begun d
         go (later rest a b d) = omega arith
 
     fails-go : (c .number ≡ 0 → ⊥) → (m : List ℕ) (l : Located (sort zoomed .Says)) → locate (sort zoomed .style) s (i + 1) ≡ l → PartIs (length s) (sort zoomed .take row) l c p q

@@ -16,6 +16,7 @@ use Rattle.charset.specs.Bytes.{byte, after}
 use Rattle.charset.proofs.Units.{byte-delimited, after-lawful}
 use Rattle.token.specs.Result.{refusal, done, ofOutcome}
 use Rattle.token.proofs.Checks.{refusal-done}
+use Rattle.token.proofs.Results.{same-done}
 use Rattle.stylinggrammar.specs.Styling.{background, detail, decimal, twoDigits, parts, Spelling, toSpelling, ofSpelling, styling, Symbols}
 use Rattle.stylinggrammar.specs.Meaning.{ifAny, zoomsGood, namesGood, stylesFew, stylesOf, colourStyle, zoomStyle}
 use Rattle.stylinggrammar.proofs.Styling.{two-digits-delimited, background-lawful, detail-lawful, decimal-lawful, styling-lawful}
@@ -100,9 +101,6 @@ few-is (some l) =
     length-append (map colourStyle (l .0)) (map zoomStyle (l .1)) ∙ λ i. length-map (l .0) colourStyle i + length-map (l .1) zoomStyle i in
     few-go (length (l .0) + length (l .1)) (leb (length (l .0) + length (l .1)) 64) refl ∙ ap (λ n. leb n 64) (sym n)
 
-done-same : {A : Type 0} {a b : A} → done a ≡ done b → a ≡ b
-done-same e = cc
-
 module _ (s : List ℕ) (at : ℕ) (r : Part) (o p : List ℕ) where
   come-to : (l : Located Spelling) → locate styling s at ≡ l → stylingFrom s at ≡ ofOutcome (length s) (ended 1 (length s) l)
   unfolding stylingFrom
@@ -140,5 +138,5 @@ module _ (s : List ℕ) (at : ℕ) (r : Part) (o p : List ℕ) where
           let few : leb (r .amount) 64 ≡ stylesFew t = ap (λ n. leb n 64) (w .amount) ∙ few-is (t .symbols) in
           record {
             is = (λ i. record { number = 0; place = 0; zooms = w .zooms i; names = w .names i; few = few i }) ∙ ap foundOf (sym e);
-            puts = λ u q. w .holds ∙ ap (λ t. putStyling t o) (done-same (sym e ∙ q));
+            puts = λ u q. w .holds ∙ ap (λ t. putStyling t o) (same-done (sym e ∙ q));
           }

@@ -5,8 +5,9 @@ use mathlib.Core.Path.{_≡_, refl, sym, ap, _∙_}
 use mathlib.Core.Bool.{Bool, true, false, _&&_}
 use lib.ListN.{length, set}
 use native.Mathlib.Omega.{arith}
+use Rattle.format.specs.Format.{every}
 use Rattle.format.proofs.Lawful.{Lawful}
-use Rattle.stylinggrammar.specs.Word.{every}
+use Rattle.format.proofs.Lists.{every-true}
 use Rattle.stylinggrammar.specs.Styling.{Detail, Decimal, Symbols, symbols}
 use Rattle.stylinggrammar.specs.Meaning.{shortDetail, goodZoom}
 use Rattle.stylinggrammar.proofs.Styling.{many-colours-exact}
@@ -15,10 +16,6 @@ use Rattle.stylingreader.specs.declared.part.Part.{Part}
 use Rattle.stylingreader.specs.Parts.{Taking, PartIn, both, joinedPart}
 use Rattle.stylingreader.specs.Takings.{takeZooming, styles, takeStyles, takeSymbols}
 use Rattle.stylingreader.proofs.Chains.{Taken, taken, first-fails, joins, part-beside}
-
-every-true : {A : Type 0} (l : List A) → every (λ a. true) l ≡ true
-every-true [] = refl
-every-true (a ∷ l) = every-true l
 
 -- rows from 64 on are one
 rows-same : {A : Type 0} (put : ℕ → A → List ℕ → List ℕ) (l : List A) (j k : ℕ) (o : List ℕ) → min 64 j ≡ min 64 k

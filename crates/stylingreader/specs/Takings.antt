@@ -7,9 +7,8 @@ use mathlib.Core.Bool.{Bool, true, false, _&&_, _||_}
 use mathlib.Core.Option.{Option, none, some}
 use lib.Dec.{eqb, ltb, leb}
 use lib.ListN.{length, set}
-use Rattle.format.specs.Format.{Format, choose, sequence, optional, many}
+use Rattle.format.specs.Format.{Format, choose, sequence, optional, many, every}
 use Rattle.charset.specs.Bytes.{byte, after}
-use Rattle.stylinggrammar.specs.Word.{every}
 use Rattle.stylinggrammar.specs.Styling.{among, colour, background, Detail, detail, Figures, figures, Decimal, decimal, twoDigits, Symbols, Parts, Spelling}
 use Rattle.stylinggrammar.specs.Meaning.{onward, ifAny, shortName, shortDetail, goodZoom, zoomsGood, namesGood}
 use Rattle.stylinggrammar.specs.Record.{detailCount}

@@ -7,9 +7,9 @@ ghost use lib.ListN.{length};
 ghost use Rattle.stylinggrammar.specs.Styling.{among, letter, hexadecimal, colour, background, lineAndFill, detail};
 ghost use Rattle.stylingreader.specs.Parts.{PartIn};
 ghost use Rattle.stylingreader.specs.Takings.{goesOn, isWhole, keptByte, ColourEnds, fill, takeColour, takeFill, takeDetail};
-use super::layout::COLOUR;
-use super::layout::MOST_BYTES;
 use super::part::Part;
+use stylinggrammar::layout::COLOUR;
+use stylinggrammar::layout::MOST_LETTERS;
 use token::refusal::DONE;
 
 pub fn is_among(lo: u8, hi: u8, b: u8) -> bool
@@ -30,16 +30,23 @@ fn is_letter(b: u8) -> bool
     is_among(b'a', b'z', b)
 }
 
+// By itself, so that the compiler tests both cases at once, without a branch.
+fn is_hexadecimal_letter(b: u8) -> bool
+    ensures { λ r. ⌜ r ≡ (among 65 70 b || among 97 102 b) ⌝ }
+{
+    if is_among(b'A', b'F', b) {
+        return true;
+    }
+    is_among(b'a', b'f', b)
+}
+
 fn is_hexadecimal(b: u8) -> bool
     ensures { λ r. ⌜ r ≡ hexadecimal b ⌝ }
 {
     if is_among(b'0', b'9', b) {
         return true;
     }
-    if is_among(b'A', b'F', b) {
-        return true;
-    }
-    is_among(b'a', b'f', b)
+    is_hexadecimal_letter(b)
 }
 
 // Whether n bytes begin a colour, by whether they all are letters or hexadecimal digits.
@@ -79,7 +86,7 @@ fn keep_byte(to: &mut [u16], base: usize, n: usize, b: u8)
     requires { ⌜ base ≤ 65535 ⌝ }
     ensures { λ r. ⌜ now (to .exit) ≡ keptByte (now (to .entry)) base n b ⌝ }
 {
-    if n < MOST_BYTES {
+    if n < MOST_LETTERS {
         super::part::put(to, base + 1 + n, b as u16);
     }
 }
@@ -113,7 +120,7 @@ fn colour_end(
         number: DONE,
         place: i,
         zooms: true,
-        names: n <= MOST_BYTES,
+        names: n <= MOST_LETTERS,
         amount: 0,
     }
 }

@@ -1,8 +1,7 @@
-// Reading a styling string, once to check it and once to fill a record.
+// Reading a styling string. Only `reading` is for other crates.
 
-pub mod colour;
-pub mod layout;
-pub mod part;
+mod colour;
+mod part;
 pub mod reading;
-pub mod styles;
-pub mod zoom;
+mod styles;
+mod zoom;

@@ -8,14 +8,14 @@ ghost use Rattle.stylingreader.specs.Takings.{maybeColorize, maybePaddin
 ghost use Rattle.stylingreader.specs.Takings.{takeColorize, takeDetails, takeFromSymbols, takeFromZoom, takeFromDetail, takeFromBackground, takeFromPadding, takeParts, takeSpelling};
 ghost use Rattle.stylingreader.specs.Reading.{foundOf, StylingIn};
 ghost use Rattle.token.specs.Result.{refusal};
-use super::layout::BACKGROUND;
-use super::layout::COLORIZE;
-use super::layout::DETAIL;
-use super::layout::DETAILS;
-use super::layout::MOST_STYLES;
-use super::layout::PADDING;
-use super::layout::ZOOM;
 use super::part::Part;
+use stylinggrammar::layout::BACKGROUND;
+use stylinggrammar::layout::COLORIZE;
+use stylinggrammar::layout::DETAIL;
+use stylinggrammar::layout::DETAILS;
+use stylinggrammar::layout::MOST_STYLES;
+use stylinggrammar::layout::PADDING;
+use stylinggrammar::layout::ZOOM;
 use token::refusal::DONE;
 use token::refusal::TEXT_WRONG;
 

@@ -1,12 +1,13 @@
 -- The styles of symbols, written one after the other: those of one kind, and then those of the other.
 use Prim.Native.Nat.{ℕ, zero, suc, _+_, _-_, _*_, _%_, _≤_, _<_}
 use mathlib.Core.Path.{_≡_, refl, sym, ap, _∙_}
-use mathlib.Core.List.{List, [], _∷_, _++_, append-assoc, append-nil}
+use mathlib.Core.List.{List, [], _∷_, _++_, append-nil}
 use native.Mathlib.Nat.{add-zero, mul-add}
 use native.Mathlib.Omega.{arith}
 use lib.ListN.{length, length-append}
 use borrow.Author.Tests.{eq-eqb, ne-eqb}
 use Rattle.format.specs.Format.{Format, choose, many}
+use Rattle.format.proofs.Many.{write-append}
 use Rattle.token.specs.Wrote.{Wrote}
 use Rattle.writer.proofs.Writes.{wrote-none, wrote-more, wrote-as}
 use Rattle.stylinggrammar.specs.Styling.{Detail, detail, twoDigits, decimal, symbolColours, symbolZoom}
@@ -89,10 +90,6 @@ pub zooms-append : (l m : List Style) → zoomTexts (l ++ m) ≡ zoomTexts l ++ 
 zooms-append [] m = refl
 zooms-append (coloured n d ∷ l) m = zooms-append l m
 zooms-append (zoomed n z ∷ l) m = ap (λ x. (n, decimalOf z) ∷ x) (zooms-append l m)
-
-write-append : {A : Type 0} (f : Format A) (l m : List A) → many f .write (l ++ m) ≡ many f .write l ++ many f .write m
-write-append f [] m = refl
-write-append f (a ∷ l) m = ap (λ t. f .write a ++ t) (write-append f l m) ∙ sym (append-assoc (f .write a) (many f .write l) (many f .write m))
 
 -- A loop has written the texts of the first k of n styles, each in at most s bytes, from a up to r, and so made the memory o into p.
 pub record PuttingStyles {A : Type 0} (f : Format A) (texts : List Style → List A) (s : ℕ) (w : List ℕ) (n : ℕ) (o p : List ℕ) (a r k : ℕ) : Type 0 where

@@ -13,10 +13,24 @@ ghost use Rattle.stylinggrammar.specs.Record.{colourAt, styleAt, stylesFrom, st
 ghost use Rattle.stylingwriter.specs.Pieces.{colorizeText, paddingText, backgroundText, detailText, zoomText, symbolsText, coloursText, zoomsText};
 use crate::figures::put_two_digits;
 use crate::figures::put_zoom;
+use stylinggrammar::layout::BACKGROUND;
+use stylinggrammar::layout::COLORIZE;
+use stylinggrammar::layout::COLOUR;
+use stylinggrammar::layout::COLOURED;
+use stylinggrammar::layout::DETAIL;
+use stylinggrammar::layout::DETAILS;
+use stylinggrammar::layout::FIRST_ROW;
+use stylinggrammar::layout::MOST_STYLES;
+use stylinggrammar::layout::PADDING;
+use stylinggrammar::layout::ROW;
+use stylinggrammar::layout::ROW_DETAIL;
+use stylinggrammar::layout::ROW_FILL;
+use stylinggrammar::layout::ROW_NUMBER;
+use stylinggrammar::layout::ROW_ZOOM;
+use stylinggrammar::layout::STYLES;
+use stylinggrammar::layout::ZOOM;
+use token::reading::least;
 use writer::tokens::put_byte;
-
-// Room for the longest styling string that is written.
-pub const MOST_BYTES: usize = 3600;
 
 // n numbers of the record, each as a byte.
 fn put_bytes(out: &mut [u8], at: usize, w: &[u16], from: usize, n: usize) -> usize
@@ -31,16 +45,6 @@ fn put_bytes(out: &mut [u8], at: usize, w: &[u16], from: usize, n: usize) -> usi
         i += 1;
     }
     next
-}
-
-// The lesser.
-fn least(a: u16, b: u16) -> u16
-    ensures { λ r. ⌜ r ≡ min a b ⌝ }
-{
-    if a < b {
-        return a;
-    }
-    b
 }
 
 // The colour at an offset of the record.
@@ -65,7 +69,7 @@ fn put_detail(out: &mut [u8], at: usize, w: &[u16], from: usize, bare: bool) -> 
         return put_byte(out, line, b'_');
     }
     let comma = put_byte(out, line, b',');
-    let fill = put_colour(out, comma, w, from + 25);
+    let fill = put_colour(out, comma, w, from + COLOUR);
     put_byte(out, fill, b'_')
 }
 
@@ -76,13 +80,13 @@ fn put_style_colours(out: &mut [u8], at: usize, w: &[u16], row: usize) -> usize
     ensures most { λ r. ⌜ r ≤ at + 54 * length (colourTexts (styleAt (now (w .entry)) row ∷ [])) ⌝ }
 {
     let kind = w[row];
-    if kind != 1 {
+    if kind != COLOURED {
         return at;
     }
     let letter = put_byte(out, at, b'D');
-    let number = put_two_digits(out, letter, w[row + 1] % 100);
-    let fill = w[row + 28];
-    put_detail(out, number, w, row + 3, fill == 0)
+    let number = put_two_digits(out, letter, w[row + ROW_NUMBER] % 100);
+    let fill = w[row + ROW_FILL];
+    put_detail(out, number, w, row + ROW_DETAIL, fill == 0)
 }
 
 // The symbol style at an offset of the record, if it is a zoom.
@@ -92,13 +96,13 @@ fn put_style_zoom(out: &mut [u8], at: usize, w: &[u16], row: usize) -> usize
     ensures most { λ r. ⌜ r ≤ at + 9 * length (zoomTexts (styleAt (now (w .entry)) row ∷ [])) ⌝ }
 {
     let kind = w[row];
-    if kind == 1 {
+    if kind == COLOURED {
         return at;
     }
     let letter = put_byte(out, at, b'Z');
-    let number = put_two_digits(out, letter, w[row + 1] % 100);
+    let number = put_two_digits(out, letter, w[row + ROW_NUMBER] % 100);
     let comma = put_byte(out, number, b',');
-    put_zoom(out, comma, w[row + 2] % 10000)
+    put_zoom(out, comma, w[row + ROW_ZOOM] % 10000)
 }
 
 // The colours of the first n symbol styles.
@@ -110,7 +114,7 @@ fn put_colours(out: &mut [u8], at: usize, w: &[u16], n: usize) -> usize
     let mut next = at;
     let mut k: usize = 0;
     while k < n {
-        next = put_style_colours(out, next, w, 80 + 53 * k);
+        next = put_style_colours(out, next, w, FIRST_ROW + ROW * k);
         k += 1;
     }
     next
@@ -124,19 +128,19 @@ fn put_zooms(out: &mut [u8], at: usize, w: &[u16], n: usize) -> usize
     let mut next = at;
     let mut k: usize = 0;
     while k < n {
-        next = put_style_zoom(out, next, w, 80 + 53 * k);
+        next = put_style_zoom(out, next, w, FIRST_ROW + ROW * k);
         k += 1;
     }
     next
 }
 
-// C, if what is styled is coloured.
+// C, if the sign is colorized.
 fn put_colorize(out: &mut [u8], at: usize, w: &[u16]) -> usize
     requires { ⌜ (length (now w) ≡ 3472) × (at + 1 ≤ length (now out)) ⌝ }
     ensures wrote { λ r. ⌜ Wrote (now (out .entry)) (now (out .exit)) at r (colorizeText (stylingIn (now (w .entry)))) ⌝ }
     ensures most { λ r. ⌜ r ≤ at + 1 ⌝ }
 {
-    let colorized = w[0];
+    let colorized = w[COLORIZE];
     if colorized != 1 {
         return at;
     }
@@ -148,7 +152,7 @@ fn put_padding(out: &mut [u8], at: usize, w: &[u16]) -> usize
     ensures wrote { λ r. ⌜ Wrote (now (out .entry)) (now (out .exit)) at r (paddingText (stylingIn (now (w .entry)))) ⌝ }
     ensures most { λ r. ⌜ r ≤ at + 3 ⌝ }
 {
-    let padding = w[1];
+    let padding = w[PADDING];
     if padding == 0 {
         return at;
     }
@@ -161,13 +165,13 @@ fn put_background(out: &mut [u8], at: usize, w: &[u16]) -> usize
     ensures wrote { λ r. ⌜ Wrote (now (out .entry)) (now (out .exit)) at r (backgroundText (stylingIn (now (w .entry)))) ⌝ }
     ensures most { λ r. ⌜ r ≤ at + 27 ⌝ }
 {
-    let size = w[5];
+    let size = w[BACKGROUND];
     if size == 0 {
         return at;
     }
     let letter = put_byte(out, at, b'G');
     let first = put_byte(out, letter, b'_');
-    let last = put_colour(out, first, w, 5);
+    let last = put_colour(out, first, w, BACKGROUND);
     put_byte(out, last, b'_')
 }
 
@@ -176,12 +180,12 @@ fn put_details(out: &mut [u8], at: usize, w: &[u16]) -> usize
     ensures wrote { λ r. ⌜ Wrote (now (out .entry)) (now (out .exit)) at r (detailText (stylingIn (now (w .entry)))) ⌝ }
     ensures most { λ r. ⌜ r ≤ at + 52 ⌝ }
 {
-    let colours = w[3];
+    let colours = w[DETAILS];
     if colours == 0 {
         return at;
     }
     let next = put_byte(out, at, b'D');
-    put_detail(out, next, w, 30, colours == 1)
+    put_detail(out, next, w, DETAIL, colours == 1)
 }
 
 fn put_whole_zoom(out: &mut [u8], at: usize, w: &[u16]) -> usize
@@ -189,7 +193,7 @@ fn put_whole_zoom(out: &mut [u8], at: usize, w: &[u16]) -> usize
     ensures wrote { λ r. ⌜ Wrote (now (out .entry)) (now (out .exit)) at r (zoomText (stylingIn (now (w .entry)))) ⌝ }
     ensures most { λ r. ⌜ r ≤ at + 6 ⌝ }
 {
-    let zoom = w[2];
+    let zoom = w[ZOOM];
     if zoom == 0 {
         return at;
     }
@@ -202,7 +206,7 @@ fn put_symbols(out: &mut [u8], at: usize, w: &[u16]) -> usize
     requires { ⌜ (length (now w) ≡ 3472) × (at + 3457 ≤ length (now out)) ⌝ }
     ensures { λ r. ⌜ Wrote (now (out .entry)) (now (out .exit)) at r (symbolsText (stylingIn (now (w .entry)))) ⌝ }
 {
-    let n = least(64, w[4]);
+    let n = least(MOST_STYLES, w[STYLES]);
     if n == 0 {
         return at;
     }
@@ -213,7 +217,7 @@ fn put_symbols(out: &mut [u8], at: usize, w: &[u16]) -> usize
 
 // Puts the text of the styling in a record at the start of the output, and returns its length.
 pub fn put_styling(w: &[u16], out: &mut [u8]) -> usize
-    requires { ⌜ (length (now w) ≡ 3472) × (3600 ≤ length (now out)) ⌝ }
+    requires { ⌜ (length (now w) ≡ 3472) × (3547 ≤ length (now out)) ⌝ }
     ensures { λ r. ⌜ Wrote (now (out .entry)) (now (out .exit)) 0 r (stylingText (stylingIn (now (w .entry)))) ⌝ }
 {
     let dash = put_byte(out, 0, b'-');

@@ -11,6 +11,7 @@ use Rattle.charset.specs.Tokens.{base, turn, keyOf, partsOf}
 use Rattle.charset.proofs.Keys.{parts-of-key}
 use Rattle.token.specs.Result.{done}
 use Rattle.token.specs.Symbol.{anySymbol}
+use Rattle.token.proofs.Results.{same-done}
 use Rattle.symbol.specs.Codes.{codeOf, codeText}
 use Rattle.symbol.specs.CodeLaws.{Key, ValidKey, keyText, keyCode, Spelled, KeyLaws}
 use Rattle.symbol.proofs.Codes.{code-fine}
@@ -56,16 +57,13 @@ at-valid n h = record { base = (omega arith, omega arith); fill = omega arith; r
 at-code : (n : ℕ) → 1 ≤ n → n ≡ keyCode (keyAt n)
 at-code n h = omega arith
 
-same : {t u : List ℕ} → done t ≡ done u → t ≡ u
-same e = cc
-
 only : (text : List ℕ) (n : ℕ) → codeOf Fsw text ≡ done n → 1 ≤ n → Spelled text n
 only text n e h =
     let v = at-valid n (read Fsw text n e .0) in
     record {
       key = keyAt n;
       valid = v;
-      spells = same (sym (code-laws Fsw .writes text n e) ∙ ap (codeText Fsw) (at-code n h) ∙ key-written (keyAt n) v);
+      spells = same-done (sym (code-laws Fsw .writes text n e) ∙ ap (codeText Fsw) (at-code n h) ∙ key-written (keyAt n) v);
       codes = at-code n h;
     }
 

@@ -70,11 +70,11 @@ module _ (f g : Format ℕ) (from : ℕ → ℕ ⊎ ℕ) (P : ℕ → Type 0) (d
 
   pub either-this : (r : Token) → r ≡ tokenAt f s at → (r ≡ Wrong at → ⊥) → r ≡ tokenAt whole s at
   unfolding tokenAt
-  either-this r e n = e ∙ whole-is inl (λ v. refl) (locate f s at) (either-first 1 f g d s at (λ z. n (e ∙ ap told z)))
+  either-this r e n = e ∙ whole-is inl (λ v. refl) (locate f s at) (either-first f g s at (λ z. n (e ∙ ap told z)))
 
   pub either-that : (q r : Token) → q ≡ tokenAt f s at → q ≡ Wrong at → r ≡ tokenAt g s at → r ≡ tokenAt whole s at
   unfolding tokenAt
-  either-that q r e v h = h ∙ whole-is inr (λ v. refl) (locate g s at) (either-second 1 f g d s at (told-wrong (locate f s at) at (sym e ∙ v)))
+  either-that q r e v h = h ∙ whole-is inr (λ v. refl) (locate g s at) (either-second f g s at (d .firm) (told-wrong (locate f s at) at (sym e ∙ v)))
 
 -- a fixed byte, and then a format
 module _ (b : ℕ) (f : Format ℕ) (s : List ℕ) (at : ℕ) where

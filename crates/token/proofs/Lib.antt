@@ -6,4 +6,5 @@ pub mod Atomic
 pub mod Choices
 pub mod Ends
 pub mod Checks
+pub mod PaddedLists
 pub mod Results

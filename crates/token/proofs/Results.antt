@@ -6,11 +6,12 @@ use native.Mathlib.Omega.{arith}
 use lib.Dec.{lit<}
 use lib.ListN.{length}
 use Rattle.format.specs.Format.{Format}
+use Rattle.format.specs.Places.{Outcome, fine, refused, endsShort}
 use Rattle.format.specs.Located.{Located, found, wrongAt, shortHere, locate, andThen as thenLocated, onFound}
 use Rattle.format.proofs.Delimited.{Fixed}
 use Rattle.format.proofs.At.{fixed-got}
 use Rattle.token.specs.Refusal.{textWrong, textShort}
-use Rattle.token.specs.Result.{Result, refusal, done, onDone, andThen, ofLocated, resultAt, valueAt}
+use Rattle.token.specs.Result.{Result, refusal, done, onDone, andThen, ofOutcome, ofLocated, resultAt, valueAt}
 use Rattle.token.specs.Token.{told, tokenAt, tokenResult, TokenResult}
 use Rattle.token.proofs.Checks.{refusal-done, done-counted, refusal-counted, Counted, onDone-done}
 
@@ -40,6 +41,11 @@ pub located-done : {A : Type 0} (size : ℕ) (l : Located A) (a : A) (next : ℕ
 located-done size (found b i) a next e = let q = same-done e in λ j. found (q j .0) (q j .1)
 located-done size (wrongAt p) a next e = refusal-done textWrong p e
 located-done size shortHere a next e = refusal-done textShort size e
+
+pub outcome-done : {A : Type 0} (size : ℕ) (o : Outcome A) (a : A) → ofOutcome size o ≡ done a → o ≡ fine a
+outcome-done size (fine b) a e = ap fine (same-done e)
+outcome-done size (refused p) a e = refusal-done textWrong p e
+outcome-done size endsShort a e = refusal-done textShort size e
 
 pub value-there : {A : Type 0} (w n : ℕ) (f : Format A) → Fixed w n f → (s : List ℕ) (at : ℕ) (a : A) → valueAt f s at ≡ done a → locate f s at ≡ found a (at + n)
 value-there w n f x s at a e =

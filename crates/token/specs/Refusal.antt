@@ -50,11 +50,11 @@ abbrev pub entryAbsent : ℕ
 entryAbsent = 16
 
 -- a zoom out of range or with over two decimals, a colour name over 24 letters, more than 64 symbol styles
-abbrev pub zoomWrong : ℕ
-zoomWrong = 17
+abbrev pub zoomOutside : ℕ
+zoomOutside = 17
 
-abbrev pub nameLong : ℕ
-nameLong = 18
+abbrev pub colourLong : ℕ
+colourLong = 18
 
-abbrev pub stylesMany : ℕ
-stylesMany = 19
+abbrev pub stylesLong : ℕ
+stylesLong = 19

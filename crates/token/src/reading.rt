@@ -85,7 +85,7 @@ fn less(a: u16, b: u16) -> u16
 }
 
 // The lesser.
-fn least(a: u16, b: u16) -> u16
+pub fn least(a: u16, b: u16) -> u16
     ensures { λ r. ⌜ r ≡ min a b ⌝ }
 {
     if a < b {

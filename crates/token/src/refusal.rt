@@ -35,8 +35,8 @@ pub const CODE_WRONG: u8 = 15;
 
 pub const ENTRY_ABSENT: u8 = 16;
 
-pub const ZOOM_WRONG: u8 = 17;
+pub const ZOOM_OUTSIDE: u8 = 17;
 
-pub const NAME_LONG: u8 = 18;
+pub const COLOUR_LONG: u8 = 18;
 
-pub const STYLES_MANY: u8 = 19;
+pub const STYLES_LONG: u8 = 19;

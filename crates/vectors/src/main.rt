@@ -93,6 +93,17 @@ fn styled_in(set: Charset, text: &[u8]) {
     }
 }
 
+// A record that was read, with its last number, which is unused, set to 1: no styling reads as it.
+fn spoilt(text: &[u8]) {
+    let mut record = [0u16; 3472];
+    let r = styling::read_styled(Charset::Fsw, text, &mut record);
+    if r.number == 0 {
+        record[3471] = 1;
+        let mut out = [0u8; 3600];
+        put_text(styling::write_styling(&record, &mut out), &out);
+    }
+}
+
 fn styled_transcription(set: Charset, text: &[u8]) {
     let mut out = [0u8; 1200];
     put_text(styling::transcribe_styled(set, text, &mut out), &out);
@@ -152,7 +163,7 @@ fn centring(text: &[u8]) {
 
 // k: a key's code; c: its character; f and s: an FSW and an SWU sign; o and p: where the symbols of an FSW and of an SWU sign
 // stand; t and b: transcribed from FSW, and back from SWU; y and z: an FSW and an SWU sign with its styling; x and d: such a sign
-// transcribed from FSW, and back from SWU; q: a query; v: a verdict; m: a sign moved to the middle.
+// transcribed from FSW, and back from SWU; w: a styling that is spoilt and written; q: a query; v: a verdict; m: a sign moved to the middle.
 fn answer(kind: u8, text: &[u8]) {
     match kind {
         b'k' => key(text),
@@ -167,6 +178,7 @@ fn answer(kind: u8, text: &[u8]) {
         b'z' => styled_in(Charset::Swu, text),
         b'x' => styled_transcription(Charset::Fsw, text),
         b'd' => styled_transcription(Charset::Swu, text),
+        b'w' => spoilt(text),
         b'q' => query_in(text),
         b'v' => verdict_on(text),
         b'm' => centring(text),

@@ -1,7 +1,7 @@
 -- The first n values of a function, their text in a format, and a loop that writes it value by value.
 use Prim.Native.Nat.{ℕ, zero, suc, _+_, _*_, _≤_, _<_}
 use mathlib.Core.Path.{_≡_, refl, sym, ap, _∙_}
-use mathlib.Core.List.{List, [], _∷_, _++_, append-assoc, append-nil, map, map-append}
+use mathlib.Core.List.{List, [], _∷_, _++_, append-nil, map, map-append}
 use mathlib.Core.Logic.{⊎-elim}
 use native.Mathlib.Nat.{suc-mul, mul-le-mul-right, eq-or-lt-of-le}
 use native.Mathlib.Numerals.{add-one}
@@ -9,6 +9,8 @@ use native.Mathlib.Omega.{arith}
 use lib.ListN.{length, length-append, getD, List·getD-append}
 use lib.Seq.{ext-getD, getD-at}
 use Rattle.format.specs.Format.{Format, All, many}
+use Rattle.format.proofs.Many.{write-append}
+use Rattle.format.proofs.Lists.{all-parts}
 use Rattle.token.specs.Wrote.{Wrote}
 use Rattle.writer.proofs.Writes.{wrote-none, wrote-more, wrote-as}
 use Rattle.writer.specs.Arrays.{upto}
@@ -44,28 +46,19 @@ upto-is g l d same =
     let e = upto-length g (length l) in
     ext-getD d (upto g (length l)) l e (λ i h. let k : i < length l = omega arith in upto-at g (length l) i d k ∙ same i k)
 
-all-append : {A : Type 0} (P : A → Type 0) (l m : List A) → All P (l ++ m) → All P l × All P m
-all-append P [] m ok = (tt, ok)
-all-append P (a ∷ l) m ok = let k = all-append P l m (ok .1) in ((ok .0, k .0), k .1)
-
 -- what holds of the first n holds of each of them
 pub all-upto : {A : Type 0} (P : A → Type 0) (g : ℕ → A) (n : ℕ) → All P (upto g n) → (i : ℕ) → i < n → P (g i)
 unfolding upto
 all-upto P g zero ok i h = absurd (omega arith)
 all-upto P g (suc n) ok i h =
-    let k = all-append P (upto g n) (g n ∷ []) ok in
+    let k = all-parts P (upto g n) (g n ∷ []) ok in
     let le : i ≤ n = omega arith in
     ⊎-elim (λ e. rw e (k .1 .0)) (λ lt. all-upto P g n (k .0) i lt) (eq-or-lt-of-le le)
 
 module _ {A : Type 0} (f : Format A) where
-  write-append : (l m : List A) → many f .write (l ++ m) ≡ many f .write l ++ many f .write m
-  write-append [] m = refl
-  write-append (a ∷ l) m =
-      ap (λ t. f .write a ++ t) (write-append l m) ∙ sym (append-assoc (f .write a) (many f .write l) (many f .write m))
-
   upto-more : (g : ℕ → A) (i : ℕ) → many f .write (upto g i) ++ many f .write (g i ∷ []) ≡ many f .write (upto g (i + 1))
   unfolding upto
-  upto-more g i = rw add-one (sym (write-append (upto g i) (g i ∷ [])))
+  upto-more g i = rw add-one (sym (write-append f (upto g i) (g i ∷ [])))
 
   -- where every value takes k bytes
   pub upto-size : {k : ℕ} → ((a : A) → length (f .write a) ≡ k) → (g : ℕ → A) (n : ℕ) → length (many f .write (upto g n)) ≡ n * k
@@ -74,7 +67,7 @@ module _ {A : Type 0} (f : Format A) where
   upto-size {k} x g (suc n) =
       let t = many f .write (upto g n) in
       let u = f .write (g n) in
-      let e : length (many f .write (upto g n ++ (g n ∷ []))) ≡ length (t ++ (u ++ [])) = ap length (write-append (upto g n) (g n ∷ [])) in
+      let e : length (many f .write (upto g n ++ (g n ∷ []))) ≡ length (t ++ (u ++ [])) = ap length (write-append f (upto g n) (g n ∷ [])) in
       let d : length (t ++ (u ++ [])) ≡ length t + length (u ++ []) = length-append t (u ++ []) in
       let c : length (u ++ []) ≡ length u = ap length (append-nil u) in
       let h : length t ≡ n * k = upto-size x g n in

@@ -28,6 +28,10 @@ impl fmt::Display for Refusal {
     fn fmt(&self, f: &mut fmt::Formatter) -> fmt::Result {
         let place = self.place;
         match self.number {
+            1 if place == 0 => write!(
+                f,
+                "The text is wrong at its first byte, or no text reads as the styling to be written."
+            ),
             1 => write!(f, "The text is wrong at byte offset {place}."),
             2 => write!(f, "The text stops too early, after {place} bytes."),
             3 => write!(f, "The prefix has more than 32 symbols or items."),

@@ -41,6 +41,19 @@ fn each_sentence_says_its_refusal() {
     }
 }
 
+/// A text and a styling that is to be written are both refused as 1 at 0.
+#[test]
+fn a_bad_styling_is_not_called_a_text() {
+    let sentence = Refusal {
+        number: 1,
+        place: 0,
+    }
+    .to_string();
+    for part in ["text is wrong", "first byte", "styling to be written"] {
+        assert!(sentence.contains(part), "{sentence}");
+    }
+}
+
 /// The number and the place of a refused call.
 fn refused<T>(answer: Result<T, Refusal>) -> (u8, usize) {
     answer.map_or_else(|refusal| (refusal.number, refusal.place), |_| (0, 0))

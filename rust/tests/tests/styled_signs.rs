@@ -84,7 +84,7 @@ fn in_both(sign: &[u8], styling: &[u8]) -> [Vec<u8>; 2] {
 }
 
 #[test]
-fn good_stylings() {
+fn undamaged_stylings() {
     let mut tally = Tally::default();
     cases(700_000, 12_000, |random| {
         let (sign, styling) = (sign_to_style(random), styling(random));
@@ -279,4 +279,29 @@ fn every_cut_of_the_longest_styling() {
     let written = Both.write_styling(&record, &mut out);
     assert_eq!(written, [0, 0, styling.len() as u64]);
     assert_eq!(out, styling.as_bytes());
+}
+
+/// Every other entry takes a plain sign, and so does a line of a dictionary.
+#[test]
+fn no_other_entry_takes_a_styling() {
+    let sizes = vec![1; 125_184];
+    let fsw = b"M500x500S10000490x485-CZ2".to_vec();
+    let swu = [in_swu(&fsw[..21]).unwrap(), fsw[21..].to_vec()].concat();
+    for (set, text, dash) in [(Fsw, fsw, 21), (Swu, swu, 24)] {
+        let refused = [1, dash, 0];
+        let mut out = [9; 99];
+        assert_eq!(Both.read(set, &text).1, [1, dash]);
+        assert_eq!(Both.transcribe(set, &text, &mut out), refused);
+        assert_eq!(Both.shift(set, &text, (1, 1), &mut out), refused);
+        assert_eq!(Both.centred(set, &text, &sizes, &mut out), refused);
+        assert_eq!(Both.boxes(set, &text, &sizes).1[..2], [1, dash]);
+        assert_eq!(Both.verdict(set, b"Q", &text)[..2], [1, dash]);
+        let plain = &text[..dash as usize];
+        let dictionary = [plain, b"\n", &text, b"\n"].concat();
+        let mut list = [7; 3];
+        assert_eq!(Both.open(set, &dictionary, &mut list), [13, 2, 0]);
+        let mut list = [2];
+        let answer = Both.narrow(set, &dictionary, &mut list, 1, b"Q");
+        assert_eq!((answer, list), ([13, 2, 0, 0], [2]));
+    }
 }

@@ -40,10 +40,12 @@ fn reads_as(styling: &[u8], record: &StylingRecord) -> bool {
 
 #[test]
 fn rooms() {
+    let mut good = 0;
     cases(900_000, 3_000, |random| {
         let Some(record) = record_of(&styling(random)) else {
             return;
         };
+        good += 1;
         let text = written(&record).unwrap();
         let needed = text.len();
         for room in 0..needed + 3 {
@@ -60,20 +62,24 @@ fn rooms() {
             }
         }
     });
+    assert!(good > 300, "{good}");
 }
 
 #[test]
 fn read_after_write() {
+    let mut good = 0;
     cases(910_000, 12_000, |random| {
         let styling = styling(random);
         let Some(record) = record_of(&styling) else {
             return;
         };
+        good += 1;
         let text = written(&record).unwrap();
         assert_eq!(record_of(&text), Some(record), "{}", shown(&text));
         assert!(text.len() <= styling.len(), "{}", shown(&styling));
         assert_eq!(written(&record), Some(text));
     });
+    assert!(good > 1_200, "{good}");
 }
 
 /// The text without each stretch of it that is so long.

@@ -75,13 +75,16 @@ fn present_is_not_absent() {
 
 #[test]
 fn written_as_read() {
+    let mut good = 0;
     cases(980_000, 6_000, |random| {
         let text = [short_sign(random), styling(random)].concat();
         if let Ok((_, styling)) = read_styled(Fsw, &text) {
+            good += 1;
             let written = format!("M500x500{}", text_of(&styling).unwrap());
             assert_eq!(read_styled(Fsw, written.as_bytes()).unwrap().1, styling);
         }
     });
+    assert!(good > 600, "{good}");
 }
 
 fn with_background(colour: &str) -> Styling {

@@ -1,5 +1,5 @@
-use Rattle.reader.proofs.Filling.{padded-length}
 use Rattle.sign.specs.Inner.{signIn}
+use Rattle.token.proofs.PaddedLists.{padded-length}
 use Rattle.layout.proofs.Laying.{front-filled, prefix-clear, symbols-clear, whole-sign}
 use borrow.Author.Needs.{needs}
 use Rattle.layout.proofs.signs.put_sign.Statement.{statement}

@@ -3,7 +3,7 @@ use mathlib.Core.Path.{_≡_, ap, _∙_}
 use lib.ListN.{length}
 use lib.Seq.{paste, paste-zero}
 use native.Mathlib.Omega.{arith}
-use Rattle.layout.proofs.Copies.{copy-on}
+use Rattle.sign.proofs.Copies.{copy-on}
 use Rattle.layout.proofs.verdicts.put_witnesses.Statement.{statement}
 use Rattle.layout.proofs.verdicts.put_witnesses.Tie as tie
 

@@ -8,15 +8,16 @@ use native.Mathlib.Omega.{arith}
 use denote.Ref.{now}
 use lib.Dec.{eqb}
 use lib.ListN.{set}
+use Rattle.format.specs.Format.{every}
 use Rattle.writer.specs.Arrays.{upto, at}
-use Rattle.moving.specs.Moves.{stays, allOf}
+use Rattle.moving.specs.Moves.{stays}
 use Rattle.moving.specs.Inner.{valueOf, movedOrZero, mapFirst, movedAxis}
 use Rattle.moving.proofs.Axes.{map-none, map-more, all-one, all-leaves, all-stays}
 use Rattle.moving.proofs.writing.move_axis.Statement.{statement}
 use Rattle.moving.proofs.writing.move_axis.Tie as tie
 
 abbrev Inv-loop : tie.InvT-loop
-Inv-loop by most n values end stay₀ next₀ i₀ stay next i = (i ≤ n) × (stay ≡ allOf (stays (valueOf by)) (most ∷ upto (at values) i)) × (next ≡ mapFirst (movedOrZero (valueOf by)) i values)
+Inv-loop by most n values end stay₀ next₀ i₀ stay next i = (i ≤ n) × (stay ≡ every (stays (valueOf by)) (most ∷ upto (at values) i)) × (next ≡ mapFirst (movedOrZero (valueOf by)) i values)
 
 abbrev μ-loop : tie.MeasureT-loop
 μ-loop by most n values end stay₀ next₀ i₀ stay next i = n - i

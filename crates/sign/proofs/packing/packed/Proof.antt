@@ -1,7 +1,6 @@
 use mathlib.Core.Path.{refl, _∙_}
-use native.Mathlib.Omega.{arith}
 use Rattle.token.specs.Padded.{zeros}
-use Rattle.reader.proofs.Filling.{padded-length}
+use Rattle.token.proofs.PaddedLists.{padded-length}
 use Rattle.sign.proofs.Readings.{packed-with}
 use Rattle.sign.proofs.Stepping.{paste-whole}
 use borrow.Author.Needs.{needs}

@@ -1,5 +1,4 @@
 use Prim.Native.Nat.{_-_, _≤_}
-use lib.ListN.{length}
 use native.Mathlib.Omega.{arith}
 use Rattle.styling.proofs.Judging.{Alike, alike-none, alike-not, alike-on, alike-all}
 use Rattle.styling.proofs.records.are_same.Statement.{statement}

@@ -3,9 +3,9 @@ use mathlib.Core.Path.{_≡_, ap, _∙_}
 use lib.ListN.{length}
 use lib.Seq.{paste, paste-zero}
 use native.Mathlib.Omega.{arith}
-use Rattle.layout.proofs.Copies.{copy-on, copy-length}
-use Rattle.layout.proofs.signs.put.Statement.{statement}
-use Rattle.layout.proofs.signs.put.Tie as tie
+use Rattle.sign.proofs.Copies.{copy-on, copy-length}
+use Rattle.sign.proofs.copying.put.Statement.{statement}
+use Rattle.sign.proofs.copying.put.Tie as tie
 
 abbrev Inv-loop : tie.InvT-loop
 Inv-loop to₀ at from i₀ to i = (i ≤ length from) × (to ≡ paste to₀ at from i)

@@ -1,4 +1,4 @@
-// Where the record of a styling holds each part, as Record of the crate stylinggrammar says.
+// Where the record of a styling holds each part, as specs/Record says.
 
 pub const COLORIZE: usize = 0;
 
@@ -26,10 +26,14 @@ pub const ROW_ZOOM: usize = 2;
 
 pub const ROW_DETAIL: usize = 3;
 
+pub const ROW_FILL: usize = 28;
+
 pub const COLOURED: u16 = 1;
 
 pub const ZOOMED: u16 = 2;
 // what a record has room for
-pub const MOST_BYTES: usize = 24;
+pub const MOST_LETTERS: usize = 24;
 
 pub const MOST_STYLES: u16 = 64;
+// the bytes of the longest text of a styling
+pub const LONGEST: usize = 3547;

@@ -1,17 +1,18 @@
--- The text of a sign has no dash in it: every byte that a token is written with is over 47.
+-- Every byte that a sign is written with is over 47: none is a dash, and none ends a line.
 use Prim.Native.Nat.{ℕ, _+_, _-_, _*_, _/_, _%_, _<_, min}
-use mathlib.Core.List.{List, [], _∷_, _++_}
+use mathlib.Core.List.{List, [], _∷_}
 use mathlib.Core.Bool.{Bool, true, false}
 use mathlib.Core.Logic.{inl, inr}
 use mathlib.Core.Option.{none, some}
 use native.Mathlib.Omega.{arith}
 use lib.Dec.{ltb, eqb}
 use Rattle.format.specs.Format.{Format, All, choose, sequence, optional, many, either}
+use Rattle.format.proofs.Lists.{all-append}
 use Rattle.charset.specs.declared.Charset.{Charset}
 use Rattle.charset.specs.declared.Charset.the-variants.{Fsw, Swu}
 use Rattle.charset.specs.Bytes.{digit, digits, letter, after, character}
 use Rattle.charset.specs.Tokens.{Tokens, tokens, lastWriting, lastLocation, lastCode, base, turn, partsOf, key, null, toEither, nullOrKey, fswNumber}
 use Rattle.grammar.specs.Sign.{Meaning, ofMeaning, placed, point, prefix, prefixSymbol, prefixSymbols, lead, spatial, signbox, parts, signText}
 
 abbrev pub Over : List ℕ → Type 0
 Over bytes = All (λ b. 47 < b) bytes
@@ -19,12 +20,8 @@ Over bytes = All (λ b. 47 < b) bytes
 abbrev Above : {A : Type 0} → Format A → Type 0
 Above {A} f = (v : A) → Over (f .write v)
 
-over-append : (l m : List ℕ) → Over l → Over m → Over (l ++ m)
-over-append [] m p q = q
-over-append (b ∷ l) m p q = (p .0, over-append l m (p .1) q)
-
 above-sequence : {A B : Type 0} (f : Format A) (g : A → Format B) → Above f → ((a : A) → Above (g a)) → Above (sequence f g)
-above-sequence f g p q v = over-append (f .write (v .0)) (g (v .0) .write (v .1)) (p (v .0)) (q (v .0) (v .1))
+above-sequence f g p q v = all-append (λ b. 47 < b) (f .write (v .0)) (g (v .0) .write (v .1)) (p (v .0)) (q (v .0) (v .1))
 
 above-optional : {A : Type 0} (f : Format A) → Above f → Above (optional f)
 above-optional f p none = tt
@@ -32,7 +29,7 @@ above-optional f p (some a) = p a
 
 above-many : {A : Type 0} (f : Format A) → Above f → Above (many f)
 above-many f p [] = tt
-above-many f p (a ∷ l) = over-append (f .write a) (many f .write l) (p a) (above-many f p l)
+above-many f p (a ∷ l) = all-append (λ b. 47 < b) (f .write a) (many f .write l) (p a) (above-many f p l)
 
 above-either : {A B : Type 0} (f : Format A) (g : Format B) → Above f → Above g → Above (either f g)
 above-either f g p q (inl a) = p a
