@@ -2,8 +2,12 @@
 use Prim.Native.Nat.{ℕ, _≤_}
 use mathlib.Core.List.{List}
 use mathlib.Core.Path.{_≡_, refl, sym, ap, _∙_}
+use mathlib.Core.Bool.{Bool, true, false}
+use lib.Dec.{eqb}
 use lib.ListN.{length}
 use native.Mathlib.Omega.{arith}
+use borrow.Author.Tests.{eqb-true, eqb-false, eq-eqb, ne-eqb}
+use Rattle.format.specs.Format.{choose}
 use Rattle.format.specs.Places.{Outcome, fine, refused, endsShort}
 use Rattle.format.specs.Located.{Located, found, wrongAt, shortHere, locate, ended}
 use Rattle.format.proofs.At.{got}
@@ -18,7 +22,8 @@ use Rattle.token.specs.Ends.{leftOver}
 use Rattle.token.proofs.Ends.{end-wrong, end-short, end-fine}
 use Rattle.reader.specs.declared.arrays.Head.{Head}
 use Rattle.token.specs.Padded.{padded}
-use Rattle.reader.specs.Inner.{headOf, noHead, HoldsSymbols, ReadAs, SignInto, whole, TextInto}
+use Rattle.reader.specs.Inner.{headOf, noHead, HoldsSymbols, ReadAs, SignInto, whole, TextInto, StartOrWhole, endedHead, limited}
+use Rattle.reader.proofs.Limits.{read-limited}
 
 module _ (set : Charset) (s : List ℕ) (h : Head) (array codes xs ys : List ℕ) (v : SignInto set s h array codes xs ys) where
   abbrev size : ℕ
@@ -81,3 +86,47 @@ module _ (set : Charset) (s : List ℕ) (h : Head) (array codes xs ys : List ℕ
           (λ i. record { number = 0; place = 0; marker = k i .marker; «max_x» = k i .«max_x»; «max_y» = k i .«max_y»; «prefix_count» = k i .«prefix_count»; «symbol_count» = k i .«symbol_count» }),
           said z .holds,
         )
+
+  abbrev over : ℕ
+  over = leftOver set (length s) (h .place)
+
+  -- the whole text, if nothing follows
+  pub text-ended : (r : Head) → r ≡ endedHead set (length s) h → TextInto set s r array codes xs ys
+  unfolding endedHead
+  text-ended r q = rw q (go (eqb (h .number) 0) (eqb over textWrong) (eqb over textShort) refl refl refl)
+    where
+      go : (a b c : Bool) → eqb (h .number) 0 ≡ a → eqb over textWrong ≡ b → eqb over textShort ≡ c
+          → TextInto set s (choose a (choose b (noHead textWrong (h .place)) (choose c (noHead textShort (length s)) (record { number = 0; place = 0; marker = h .marker; «max_x» = h .«max_x»; «max_y» = h .«max_y»; «prefix_count» = h .«prefix_count»; «symbol_count» = h .«symbol_count» }))) h) array codes xs ys
+      go false b c x y z = text-refused (eqb-false (h .number) 0 x)
+      go true true c x y z = text-over over (eqb-true (h .number) 0 x) refl _ (eqb-true over textWrong y) refl
+      go true false true x y z = text-cut over (eqb-true (h .number) 0 x) refl _ (eqb-true over textShort z) refl
+      go true false false x y z = text-read over (eqb-true (h .number) 0 x) refl (eqb-false over textWrong y) (eqb-false over textShort z)
+
+-- the end of a text: one law for each return
+module _ (set : Charset) (size : ℕ) (h : Head) where
+  pub ended-refused : (h .number ≡ 0 → ⊥) → h ≡ endedHead set size h
+  unfolding endedHead
+  ended-refused z = rw (ne-eqb (h .number) 0 z)
+
+  module _ (z : h .number ≡ 0) (left : ℕ) (l : left ≡ leftOver set size (h .place)) where
+    pub ended-over : (r : Head) → left ≡ textWrong → r ≡ noHead textWrong (h .place) → r ≡ endedHead set size h
+    unfolding endedHead
+    ended-over r q e = rw (eq-eqb (h .number) 0 z, ← l, eq-eqb left textWrong q) e
+
+    module _ (n : left ≡ textWrong → ⊥) where
+      pub ended-cut : (r : Head) → left ≡ textShort → r ≡ noHead textShort size → r ≡ endedHead set size h
+      unfolding endedHead
+      ended-cut r q e = rw (eq-eqb (h .number) 0 z, ← l, ne-eqb left textWrong n, eq-eqb left textShort q) e
+
+      pub ended-read : (left ≡ textShort → ⊥)
+          → record { number = 0; place = 0; marker = h .marker; «max_x» = h .«max_x»; «max_y» = h .«max_y»; «prefix_count» = h .«prefix_count»; «symbol_count» = h .«symbol_count» } ≡ endedHead set size h
+      unfolding endedHead
+      ended-read k = rw (eq-eqb (h .number) 0 z, ← l, ne-eqb left textWrong n, ne-eqb left textShort k)
+
+-- the sign at the start, or the whole text
+module _ (set : Charset) (s : List ℕ) (all : Bool) (h : Head) (array codes xs ys : List ℕ) (v : SignInto set s h array codes xs ys) where
+  pub start-read : all ≡ false → StartOrWhole set s all h array codes xs ys
+  start-read e = rw e (record { is = v .is })
+
+  pub whole-read : all ≡ true → (t r : Head) → t ≡ endedHead set (length s) h → r ≡ limited t → StartOrWhole set s all r array codes xs ys
+  whole-read e t r p q = rw e (record { is = read-limited set s t r array codes xs ys (text-ended set s h array codes xs ys v t p) q .is })

@@ -2,6 +2,7 @@
 use Prim.Native.Nat.{ℕ}
 use mathlib.Core.Path.{_≡_}
 use mathlib.Core.List.{List, map}
+use mathlib.Core.Bool.{Bool, true, false}
 use mathlib.Core.Option.{none}
 use lib.Dec.{eqb, ltb}
 use lib.ListN.{length}
@@ -10,9 +11,10 @@ use Rattle.format.specs.Located.{locate, onFound}
 use Rattle.charset.specs.declared.Charset.{Charset}
 use Rattle.charset.specs.Tokens.{tokens}
 use Rattle.token.specs.declared.reading.Token.the-variants as token
-use Rattle.token.specs.Refusal.{prefixLong, signboxLong}
+use Rattle.token.specs.Refusal.{textWrong, textShort, prefixLong, signboxLong}
 use Rattle.token.specs.Result.{Result, refusal, done, onDone, ofOutcome, ofLocated, resultAt}
 use Rattle.token.specs.Token.{tokenAt}
+use Rattle.token.specs.Ends.{leftOver}
 use Rattle.grammar.specs.Sign.{Spatial, Meaning, prefixSymbol, prefix, spatial, signbox, sign, toSpatial, toPrefix, toMeaning, readSign}
 use Rattle.reader.specs.declared.arrays.Count.{Count}
 use Rattle.reader.specs.declared.arrays.Head.{Head}
@@ -95,6 +97,15 @@ whole = onDone (λ m. (m, 0))
 pub record TextInto (set : Charset) (s : List ℕ) (h : Head) (prefix codes xs ys : List ℕ) : Type 0 where
   pub is : ReadAs (whole (ofOutcome (length s) (readSign set s))) h prefix codes xs ys
 
+-- a sign that was read from a text of so many bytes, if nothing follows it
+unfoldable pub endedHead : Charset → ℕ → Head → Head
+endedHead set size h =
+    choose (eqb (h .number) 0)
+    (choose (eqb (leftOver set size (h .place)) textWrong) (noHead textWrong (h .place))
+    (choose (eqb (leftOver set size (h .place)) textShort) (noHead textShort size)
+    (record { number = 0; place = 0; marker = h .marker; «max_x» = h .«max_x»; «max_y» = h .«max_y»; «prefix_count» = h .«prefix_count»; «symbol_count» = h .«symbol_count» })))
+    h
+
 unfoldable pub limited : Head → Head
 limited h =
     choose (eqb (h .number) 0)
@@ -104,3 +115,11 @@ limited h =
 
 pub record ReadInto (set : Charset) (s : List ℕ) (h : Head) (prefix codes xs ys : List ℕ) : Type 0 where
   pub is : ReadAs (whole (signOf set s)) h prefix codes xs ys
+
+-- the sign at the start, or what the whole text says
+abbrev pub startOrWhole : Charset → List ℕ → Bool → Result (Meaning × ℕ)
+startOrWhole set s false = resultAt (sign set) s 0
+startOrWhole set s true = whole (signOf set s)
+
+pub record StartOrWhole (set : Charset) (s : List ℕ) (all : Bool) (h : Head) (prefix codes xs ys : List ℕ) : Type 0 where
+  pub is : ReadAs (startOrWhole set s all) h prefix codes xs ys

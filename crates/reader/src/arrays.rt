@@ -3,7 +3,7 @@ ghost use mathlib.Core.Path.{_≡_};
 ghost use Prim.Native.Nat.{_≤_};
 ghost use lib.ListN.{length, set as setAt};
 ghost use Rattle.token.specs.Padded.{zeros};
-ghost use Rattle.reader.specs.Inner.{PrefixIn, SymbolsIn, SignboxIn, Begun, LeadingPrefix, SignInto, TextInto, ReadInto, noHead, limited};
+ghost use Rattle.reader.specs.Inner.{PrefixIn, SymbolsIn, SignboxIn, Begun, LeadingPrefix, SignInto, TextInto, ReadInto, StartOrWhole, noHead, endedHead, limited};
 use charset::Charset;
 use part::reading::Placed;
 use token::reading::Token;
@@ -220,7 +220,7 @@ fn leading_prefix(set: Charset, s: &[u8], codes: &mut [u16; 32]) -> Count
 
 // The sign at the start of a text, whatever the counts and whatever follows. The signbox is read in one place, so that the
 // compiler takes its loop in.
-pub fn sign_into(
+fn start_into(
     set: Charset,
     s: &[u8],
     prefix: &mut [u16; 32],
@@ -240,30 +240,22 @@ pub fn sign_into(
     signbox_into(set, s, place, t.count, codes, xs, ys)
 }
 
-// The same where nothing follows the sign.
-pub fn text_into(
-    set: Charset,
-    s: &[u8],
-    prefix: &mut [u16; 32],
-    codes: &mut [u16; 64],
-    xs: &mut [u16; 64],
-    ys: &mut [u16; 64],
-) -> Head
-    requires { ⌜ (now prefix ≡ zeros 32) × (now codes ≡ zeros 64) × (now xs ≡ zeros 64) × (now ys ≡ zeros 64) ⌝ }
-    ensures { λ r. ⌜ TextInto set (now (s .entry)) r (now (prefix .exit)) (now (codes .exit)) (now (xs .exit)) (now (ys .exit)) ⌝ }
+// A sign that was read from a text of so many bytes, if nothing follows it.
+fn ended(set: Charset, size: usize, h: Head) -> Head
+    requires { ⌜ (h .number ≡ 0 → h .place ≤ size) ⌝ }
+    ensures { λ r. ⌜ r ≡ endedHead set size h ⌝ }
 {
-    let h = sign_into(set, s, prefix, codes, xs, ys);
     let number = h.number;
     let place = h.place;
     if number != DONE {
         return h;
     }
-    let left = token::reading::left_over(set, s.len(), place);
+    let left = token::reading::left_over(set, size, place);
     if left == TEXT_WRONG {
         return no_head(TEXT_WRONG, place);
     }
     if left == TEXT_SHORT {
-        return no_head(TEXT_SHORT, s.len());
+        return no_head(TEXT_SHORT, size);
     }
     Head {
         number: DONE,
@@ -293,6 +285,58 @@ pub fn within_limits(h: Head) -> Head
     h
 }
 
+// The sign at the start of a text, or the whole text as a sign within the limits. Both are read here, so that the compiler makes
+// one function of the whole reader.
+fn start_or_whole_into(
+    set: Charset,
+    s: &[u8],
+    whole: bool,
+    prefix: &mut [u16; 32],
+    codes: &mut [u16; 64],
+    xs: &mut [u16; 64],
+    ys: &mut [u16; 64],
+) -> Head
+    requires { ⌜ (now prefix ≡ zeros 32) × (now codes ≡ zeros 64) × (now xs ≡ zeros 64) × (now ys ≡ zeros 64) ⌝ }
+    ensures { λ r. ⌜ StartOrWhole set (now (s .entry)) whole r (now (prefix .exit)) (now (codes .exit)) (now (xs .exit)) (now (ys .exit)) ⌝ }
+{
+    let h = start_into(set, s, prefix, codes, xs, ys);
+    if whole {
+        return within_limits(ended(set, s.len(), h));
+    }
+    h
+}
+
+// Reads the sign at the start of a text into lent arrays of zeros.
+pub fn sign_into(
+    set: Charset,
+    s: &[u8],
+    prefix: &mut [u16; 32],
+    codes: &mut [u16; 64],
+    xs: &mut [u16; 64],
+    ys: &mut [u16; 64],
+) -> Head
+    requires { ⌜ (now prefix ≡ zeros 32) × (now codes ≡ zeros 64) × (now xs ≡ zeros 64) × (now ys ≡ zeros 64) ⌝ }
+    ensures { λ r. ⌜ SignInto set (now (s .entry)) r (now (prefix .exit)) (now (codes .exit)) (now (xs .exit)) (now (ys .exit)) ⌝ }
+{
+    start_or_whole_into(set, s, false, prefix, codes, xs, ys)
+}
+
+// The same where nothing follows the sign.
+pub fn text_into(
+    set: Charset,
+    s: &[u8],
+    prefix: &mut [u16; 32],
+    codes: &mut [u16; 64],
+    xs: &mut [u16; 64],
+    ys: &mut [u16; 64],
+) -> Head
+    requires { ⌜ (now prefix ≡ zeros 32) × (now codes ≡ zeros 64) × (now xs ≡ zeros 64) × (now ys ≡ zeros 64) ⌝ }
+    ensures { λ r. ⌜ TextInto set (now (s .entry)) r (now (prefix .exit)) (now (codes .exit)) (now (xs .exit)) (now (ys .exit)) ⌝ }
+{
+    let h = sign_into(set, s, prefix, codes, xs, ys);
+    ended(set, s.len(), h)
+}
+
 // Reads a sign into lent arrays of zeros.
 pub fn read_into(
     set: Charset,
@@ -305,5 +349,5 @@ pub fn read_into(
     requires { ⌜ (now prefix ≡ zeros 32) × (now codes ≡ zeros 64) × (now xs ≡ zeros 64) × (now ys ≡ zeros 64) ⌝ }
     ensures { λ r. ⌜ ReadInto set (now (s .entry)) r (now (prefix .exit)) (now (codes .exit)) (now (xs .exit)) (now (ys .exit)) ⌝ }
 {
-    within_limits(text_into(set, s, prefix, codes, xs, ys))
+    start_or_whole_into(set, s, true, prefix, codes, xs, ys)
 }

@@ -1,7 +1,7 @@
 use Rattle.reader.proofs.Signs.{prefix-inside, sign-refused, sign-read}
 use borrow.Author.Needs.{needs}
-use Rattle.reader.proofs.arrays.sign_into.Statement.{statement}
-use Rattle.reader.proofs.arrays.sign_into.Tie as tie
+use Rattle.reader.proofs.arrays.start_into.Statement.{statement}
+use Rattle.reader.proofs.arrays.start_into.Tie as tie
 
 leading-prefix-requires : tie.Need-leading-prefix-requires
 leading-prefix-requires c κs = search needs
@@ -18,7 +18,7 @@ signbox-into-requires c κs = (prefix-inside _ _ _ _ (c .before .before .before 
 returns-2 : tie.Need-returns-2
 returns-2 c = sign-read _ _ _ _ (c .before .before .before .before .before .leading-prefix .ensures) _ _ _ _ (c .before .before .before .before .if1 .left) (c .signbox-into .ensures)
 
-pub sign-into-spec : {M : Type 1} → statement M
-sign-into-spec =
+pub start-into-spec : {M : Type 1} → statement M
+start-into-spec =
     tie.close
     (tie.spec leading-prefix-requires no-head-requires returns signbox-into-requires returns-2)
