@@ -200,11 +200,11 @@ module _ (set : Charset) (s : List ℕ) (h : Head) (array codes xs ys : List ℕ
         sign-wrote : Wrote o p 0 at (signText other (k .both .0))
         sign-wrote = rw at-is (wrote-sign o p (signText other (k .both .0)) (omega (arith, at-is)) (a .1 ∙ ap (λ m. output o (done (signText other m))) (lying .same)))
 
-        pub transcribed-done : (q : List ℕ) (n : ℕ) → Wrote p q at n rest → Answers o (styledTranscription set s) (record { number = 0; place = 0; length = at + (length s - h .place) }) q
-        transcribed-done q n v =
+        pub transcribed-done : (q : List ℕ) (n : ℕ) (r : Written) → Wrote p q at n rest → r ≡ record { number = 0; place = 0; length = at + (length s - h .place) } → Answers o (styledTranscription set s) r q
+        transcribed-done q n r v e =
             let t : Wrote o q 0 n all = wrote-more sign-wrote (wrote-as v rest-is) in
             let y : n ≡ at + (length s - h .place) = t .next ∙ omega (arith, size-is) in
-            answers-done all-done (rw y at t)
+            rw e (answers-done all-done (rw y at t))
 
 -- A RECORD
 
@@ -331,8 +331,8 @@ module _ (w blank buffer : List ℕ) (size : ℕ) (v : Wrote blank buffer 0 size
       pub write-short : (o : List ℕ) (r : Written) → length o < size → r ≡ record { number = roomShort; place = size; length = 0 } → Answers o (writing w) r o
       write-short o r l e = rw e (answers-short o written bytes-are l)
 
-      pub write-done : (o p : List ℕ) (n : ℕ) → Wrote o p 0 n text → Answers o (writing w) (record { number = 0; place = 0; length = size }) p
-      write-done o p n k =
+      pub write-done : (o p : List ℕ) (n : ℕ) (r : Written) → Wrote o p 0 n text → r ≡ record { number = 0; place = 0; length = size } → Answers o (writing w) r p
+      write-done o p n r k e =
           let t : Wrote o p 0 n (stylingText (stylingIn w)) = wrote-as k text-is in
           let y : n ≡ size = t .next ∙ omega (arith, bytes-are) in
-          answers-done written (rw y at t)
+          rw e (answers-done written (rw y at t))

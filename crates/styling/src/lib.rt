@@ -27,6 +27,16 @@ fn refused(number: u8, place: usize) -> Written
     }
 }
 
+fn wrote(length: usize) -> Written
+    ensures { λ r. ⌜ r ≡ record { number = 0; place = 0; length = length } ⌝ }
+{
+    Written {
+        number: DONE,
+        place: 0,
+        length: length,
+    }
+}
+
 // Reads a sign with its styling: refused as 1 or 2, then 17, 18, 19, 3, 4.
 pub fn read_styled(set: Charset, s: &[u8], styling: &mut [u16; 3472]) -> Reading
     ensures answer { λ r. ⌜ r ≡ styledReading set (now (s .entry)) ⌝ }
@@ -99,11 +109,7 @@ pub fn transcribe_styled(set: Charset, s: &[u8], out: &mut [u8]) -> Written
         out,
     );
     put_bytes(out, at, &s[place..]);
-    Written {
-        number: DONE,
-        place: 0,
-        length: size,
-    }
+    wrote(size)
 }
 
 // Writes the shortest styling string of a record: refused as 1 at 0 where no styling reads as the record, then as 6. The text is
@@ -121,9 +127,5 @@ pub fn write_styling(styling: &[u16; 3472], out: &mut [u8]) -> Written
         return refused(ROOM_SHORT, size);
     }
     put_bytes(out, 0, &text[0..size]);
-    Written {
-        number: DONE,
-        place: 0,
-        length: size,
-    }
+    wrote(size)
 }

@@ -55,11 +55,14 @@ part-put-bytes-end c = search needs
 put-bytes-requires : tie.Need-put-bytes-requires
 put-bytes-requires c κs = search needs
 
+wrote-requires : tie.Need-wrote-requires
+wrote-requires c κs = search needs
+
 same-length : tie.Need-same-length
 same-length c = search needs
 
 returns-3 : tie.Need-returns-3
-returns-3 c = transcribed-done _ _ _ _ _ _ _ (c .before .before .before .before .before .before .before .before .before .before .before .before .before .before .before .before .before .before .styled-into .ensures .0) (c .before .before .before .before .before .before .before .before .before .before .before .before .before .before .before .before .if1 .left) _ (c .before .before .before .before .before .before .before .before .before .before .before .before .before .before .before .other-set .ensures) _ (c .before .before .before .before .before .before .before .before .before .before .before .before .before .before .sign-size .ensures) _ _ _ (c .before .before .before .before .before .before .before .before .before .before .before .before .before .if2 .left) (c .before .before .before .before .before .before .before .write-sign .ensures) _ _ (c .before .before .put-bytes .ensures)
+returns-3 c = transcribed-done _ _ _ _ _ _ _ (c .before .before .before .before .before .before .before .before .before .before .before .before .before .before .before .before .before .before .before .styled-into .ensures .0) (c .before .before .before .before .before .before .before .before .before .before .before .before .before .before .before .before .before .if1 .left) _ (c .before .before .before .before .before .before .before .before .before .before .before .before .before .before .before .before .other-set .ensures) _ (c .before .before .before .before .before .before .before .before .before .before .before .before .before .before .before .sign-size .ensures) _ _ _ (c .before .before .before .before .before .before .before .before .before .before .before .before .before .before .if2 .left) (c .before .before .before .before .before .before .before .before .write-sign .ensures) _ _ _ (c .before .before .before .put-bytes .ensures) (c .wrote .ensures)
 
 pub transcribe-styled-spec : {M : Type 1} → statement M
 transcribe-styled-spec =
@@ -82,5 +85,6 @@ transcribe-styled-spec =
     part-put-bytes-start
     part-put-bytes-end
     put-bytes-requires
+    wrote-requires
     same-length
     returns-3)

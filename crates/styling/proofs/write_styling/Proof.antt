@@ -46,11 +46,14 @@ part-put-bytes-end c = search needs
 put-bytes-requires : tie.Need-put-bytes-requires
 put-bytes-requires c κs = search needs
 
+wrote-requires : tie.Need-wrote-requires
+wrote-requires c κs = search needs
+
 same-length : tie.Need-same-length
 same-length c = search needs
 
 returns-3 : tie.Need-returns-3
-returns-3 c = write-done _ _ _ _ (c .before .before .before .before .before .before .before .before .before .before .before .before .before .put-styling .ensures) _ (c .before .before .before .before .before .before .before .before .reads-as .ensures) (not-false _ (c .before .before .before .before .before .before .before .if1 .left)) _ _ _ (c .before .before .put-bytes .ensures)
+returns-3 c = write-done _ _ _ _ (c .before .before .before .before .before .before .before .before .before .before .before .before .before .before .put-styling .ensures) _ (c .before .before .before .before .before .before .before .before .before .reads-as .ensures) (not-false _ (c .before .before .before .before .before .before .before .before .if1 .left)) _ _ _ _ (c .before .before .before .put-bytes .ensures) (c .wrote .ensures)
 
 pub write-styling-spec : {M : Type 1} → statement M
 write-styling-spec =
@@ -70,5 +73,6 @@ write-styling-spec =
     part-put-bytes-start
     part-put-bytes-end
     put-bytes-requires
+    wrote-requires
     same-length
     returns-3)
