@@ -1,5 +1,5 @@
 -- A sign that was read into arrays, and places for its offsets.
-use Prim.Native.Nat.{ℕ, _+_, _≤_}
+use Prim.Native.Nat.{ℕ, _+_, _-_, _≤_}
 use mathlib.Core.Path.{_≡_}
 use mathlib.Core.List.{List}
 use lib.ListN.{length, take, drop}
@@ -29,7 +29,20 @@ pub record Cleared (array : List ℕ) (at room : ℕ) : Type 0 where
   pub fits : at + room ≤ length array
   pub is : take room (drop at array) ≡ zeros room
 
+-- an array that holds n numbers and then zeros
+pub record Counting (n : ℕ) (array : List ℕ) : Type 0 where
+  pub most : n ≤ length array
+  pub rest : drop n array ≡ zeros (length array - n)
+
 -- counts within the limits
 pub record Counted (h : Head) : Type 0 where
   pub prefix : h .«prefix_count» ≤ 32
   pub symbols : h .«symbol_count» ≤ 64
+
+-- the arrays of a sign, which hold as many numbers as its counts say
+pub record Laid (h : Head) (p c x y : List ℕ) : Type 0 where
+  pub counted : Counted h
+  pub prefix : Counting (h .«prefix_count») p
+  pub codes : Counting (h .«symbol_count») c
+  pub xs : Counting (h .«symbol_count») x
+  pub ys : Counting (h .«symbol_count») y

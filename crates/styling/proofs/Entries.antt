@@ -4,7 +4,7 @@ use mathlib.Core.List.{List, [], _++_}
 use mathlib.Core.Path.{_≡_, refl, sym, ap, subst, _∙_}
 use mathlib.Core.Bool.{Bool, true, false}
 use lib.ListN.{length, getD, take, drop, length-append, length-drop}
-use lib.Seq.{paste, drop-append-seam, take-append-seam, take-all, length-take-le}
+use lib.Seq.{paste, length-paste, take-paste, drop-append-seam, take-append-seam, take-all}
 use native.Mathlib.Omega.{arith}
 use borrow.Author.Tests.{le-ltb}
 use Rattle.format.specs.Places.{fine, reading}
@@ -27,15 +27,15 @@ use Rattle.reader.specs.Inner.{headOf, HoldsSymbols, ReadAs}
 use Rattle.sign.specs.declared.Reading.{Reading}
 use Rattle.sign.specs.Reading.{noSign, readingOf}
 use Rattle.sign.specs.Transcription.{otherSet}
-use Rattle.sign.specs.Inner.{signIn, Counted}
+use Rattle.sign.specs.Inner.{signIn, Laid}
 use Rattle.writer.specs.Arrays.{meaningIn}
-use Rattle.sign.proofs.Copies.{zeros-left}
+use Rattle.sign.proofs.Readings.{laid-there}
 use Rattle.sign.proofs.Transcribing.{Lying, lying-there}
 use Rattle.stylinggrammar.specs.Styling.{Spelling, styling}
 use Rattle.stylinggrammar.specs.Meaning.{meaning, stylingText}
 use Rattle.stylinggrammar.specs.StylingLaws.{Accepted}
 use Rattle.stylinggrammar.proofs.StylingLaws.{styling-laws}
-use Rattle.stylinggrammar.specs.Record.{recordSize, draftSize, recordOf, rowAt, stylingIn}
+use Rattle.stylinggrammar.specs.Record.{recordSize, draftSize, recordOf, stylingIn}
 use Rattle.stylinggrammar.specs.DraftLaws.{Drafted}
 use Rattle.stylinggrammar.specs.Filling.{putStyling}
 use Rattle.stylinggrammar.proofs.RecordLaws.{record-laws}
@@ -142,8 +142,8 @@ module _ (set : Charset) (s : List ℕ) (h : Head) (array codes xs ys : List ℕ
     lying : Lying (k .both .0) (k .split .within) h (dashAt s) array codes xs ys (k .head) (k .holds)
     lying = lying-there (k .both .0) (k .split .within) h (dashAt s) array codes xs ys (k .head) (k .holds)
 
-    pub counted : Counted h
-    counted = record { prefix = lying .prefix-most; symbols = lying .symbols-most }
+    pub laid : Laid h array codes xs ys
+    laid = laid-there (k .both .0) (dashAt s) h array codes xs ys (k .split .within .prefix) (k .split .within .symbols) (k .head) (k .holds)
 
     pub reading-done : (o w : List ℕ) (r : Reading) → r ≡ record { number = 0; place = 0; sign = signIn set h array codes xs ys } → w ≡ recordIn (stylingFrom rest 0)
         → (r ≡ styledReading set s) × (w ≡ recordLeft o (styledOf set s))
@@ -229,31 +229,15 @@ module _ (u : List ℕ) where
     pub draft-long : length draft ≡ draftSize
     draft-long = drafted .size
 
-    module _ (few : getD draft 4 0 ≤ 8) where
-      abbrev used : ℕ
-      used = rowAt (getD draft 4 0)
-
-      abbrev part : List ℕ
-      part = take (used - 0) (drop 0 draft)
-
-      part-is : part ≡ take used draft
-      part-is = let e : used - 0 ≡ used = omega arith in ap (λ k. take k draft) e
-
-      part-size : length part ≡ used
-      part-size = ap length part-is ∙ length-take-le used draft (omega (arith, draft-long))
-
-      start : recordOf (meaning (r .spelling)) ≡ take used draft ++ zeros (recordSize - used)
-      start =
-          let c = drafted .count in
-          drafted .start (omega (arith, c)) ∙ (λ i. take (rowAt (sym c i)) draft ++ zeros (recordSize - rowAt (sym c i)))
-
-      pub fill-copied : (p : List ℕ) → p ≡ paste (zeros recordSize) 0 part (length part) → p ≡ recordIn (stylingFrom u 0)
-      fill-copied p e =
-          let k : recordSize ≡ (0 + length part) + (recordSize - used) = omega (arith, part-size) in
-          e
-          ∙ (λ i. take-all (length part) part (omega arith) i ++ drop (0 + length part) (zeros (k i)))
-          ∙ (λ i. part-is i ++ zeros-left (0 + length part) (recordSize - used) i)
-          ∙ sym start ∙ ap recordIn (sym (r .reads))
+    pub fill-copied : getD draft 4 0 ≤ 8 → (o p q : List ℕ) (n : ℕ) → length o ≡ recordSize → n ≡ draftSize → p ≡ paste o 0 draft (length draft)
+        → q ≡ take n p ++ zeros (length p - n) → q ≡ recordIn (stylingFrom u 0)
+    fill-copied few o p q n size m e f =
+        let k : length p - n ≡ recordSize - draftSize = omega (arith, ap length e, length-paste o 0 draft (length draft) (omega (arith, draft-long)) (omega arith)) in
+        let t : n ≡ 0 + length draft = omega (arith, draft-long) in
+        f
+        ∙ (λ i. take (t i) (e i) ++ zeros (k i))
+        ∙ ap (λ l. l ++ zeros (recordSize - draftSize)) (take-paste o 0 draft (length draft) (omega (arith, draft-long)) (omega arith) ∙ take-all (length draft) draft (omega arith))
+        ∙ sym (drafted .start (omega (arith, drafted .count))) ∙ ap recordIn (sym (r .reads))
 
   -- whether a string reads as a record
   abbrev judged : Result Spelling → Result (List ℕ)

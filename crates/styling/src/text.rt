@@ -11,7 +11,10 @@ use reader::arrays::no_head;
 use reader::arrays::sign_into;
 use reader::arrays::text_into;
 use reader::arrays::within_limits;
+use sign::copying::clear;
 use sign::copying::put;
+use stylinggrammar::layout::DRAFTED;
+use stylinggrammar::layout::STYLES;
 use stylingreader::reading::Found;
 use stylingreader::reading::styling_at;
 use token::refusal::COLOUR_LONG;
@@ -145,15 +148,15 @@ pub fn styled_into(
 
 // Fills a record with a styling that is within its limits: from its draft, and where that has no room for all of its symbol styles,
 // from the text.
-pub fn fill(s: &[u8], draft: &[u16], styling: &mut [u16; 3472])
+pub fn fill(s: &[u8], draft: &[u16; 504], styling: &mut [u16; 3472])
     requires { ⌜ Ready (now s) (now draft) ⌝ }
     ensures { λ _. ⌜ now (styling .exit) ≡ recordIn (stylingFrom (now (s .entry)) 0) ⌝ }
 {
-    *styling = [0u16; 3472];
-    let n = draft[4] as usize;
-    if n <= 8 {
-        put(styling, 0, &draft[0..80 + 53 * n]);
+    if draft[STYLES] <= DRAFTED {
+        put(styling, 0, draft);
+        clear(styling, draft.len());
         return;
     }
+    *styling = [0u16; 3472];
     styling_at(s, 0, styling);
 }

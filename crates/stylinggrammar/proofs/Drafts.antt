@@ -3,8 +3,8 @@ use Prim.Native.Nat.{ℕ, zero, suc, _+_, _-_, _≤_, min}
 use mathlib.Core.List.{List, [], _∷_, _++_, append-assoc}
 use mathlib.Core.Option.{Option, none, some}
 use mathlib.Core.Path.{_≡_, refl, sym, ap, _∙_}
-use lib.ListN.{length, set, getD, take, length-append, length-replicate, replicate-append-replicate}
-use lib.Seq.{sets, length-take-le, take-at, take-take, getD-take}
+use lib.ListN.{length, set, getD, take, drop, length-append, take-append-drop}
+use lib.Seq.{sets, length-take-le, take-at, drop-at, drop-drop, getD-take}
 use native.Mathlib.Omega.{arith}
 use Rattle.stylinggrammar.specs.Styling.{Detail, Decimal, Symbols, Spelling, styling}
 use Rattle.stylinggrammar.specs.Meaning.{Styling, meaning}
@@ -14,7 +14,7 @@ use Rattle.stylinggrammar.proofs.Spellings.{meaning-valid}
 use Rattle.token.specs.Padded.{padded, zeros}
 use Rattle.stylinggrammar.specs.Record.{recordSize, draftSize, colorizeNumber, paddingNumber, zoomNumber, colourNumbers, detailCount, detailNumbers, stylesNumbers, recordOf, rowAt}
 use Rattle.stylinggrammar.specs.Filling.{putMaybe, putColour, putDetail, zoomWord, rowOf, putColours, putZoom, putRows, putSymbols, putStyling}
-use Rattle.token.proofs.PaddedLists.{padded-append, padded-none}
+use Rattle.token.proofs.PaddedLists.{padded-append, padded-none, take-zeros, drop-zeros}
 use Rattle.stylinggrammar.proofs.RecordBlocks.{counts, record-blocks, styles-size, record-size, before-rows, before-rows-size}
 use Rattle.stylinggrammar.proofs.Fills.{record-fills}
 
@@ -94,9 +94,6 @@ module _ (k : ℕ) where
 
 -- THE START OF A RECORD
 
-take-zeros : (n m : ℕ) → take n (zeros (n + m)) ≡ zeros n
-take-zeros n m = ap (take n) (sym (replicate-append-replicate n m 0)) ∙ take-at (zeros n) (zeros m) n (length-replicate n 0)
-
 -- up to the last of its symbol styles; zeros follow
 module _ (s : Styling) (few : length (s .symbols) ≤ 64) where
   abbrev front : List ℕ
@@ -129,9 +126,16 @@ module _ (s : Styling) (few : length (s .symbols) ≤ 64) where
       ∙ ap (λ l. front ++ l) (padded-append rows left 3392 room ∙ ap (λ l. rows ++ l) (sym (padded-none left)))
       ∙ sym (append-assoc front rows (zeros left))
 
-  record-start : recordOf s ≡ take used (recordOf s) ++ zeros (recordSize - used)
-  record-start =
-      record-used ∙ ap (λ l. l ++ zeros (recordSize - used)) (sym (ap (take used) record-used ∙ take-at (front ++ rows) (zeros (recordSize - used)) used used-size))
+  -- no symbol style lies after the draft
+  record-rest : length (s .symbols) ≤ 8 → drop draftSize (recordOf s) ≡ zeros (recordSize - draftSize)
+  record-rest h =
+      let more = draftSize - used in
+      let at : used + more ≡ draftSize = omega arith in
+      let left : recordSize - used ≡ more + (recordSize - draftSize) = omega arith in
+      ap (λ k. drop k (recordOf s)) (sym at)
+      ∙ sym (drop-drop more used (recordOf s))
+      ∙ ap (drop more) (ap (drop used) record-used ∙ drop-at (front ++ rows) (zeros (recordSize - used)) used used-size ∙ ap zeros left)
+      ∙ drop-zeros more (recordSize - draftSize)
 
   record-count : getD (recordOf s) 4 0 ≡ length (s .symbols)
   record-count = ap (λ l. getD l 4 0) (record-blocks s)
@@ -148,10 +152,7 @@ module _ (t : Spelling) (ok : styling .Valid t) (a : Accepted t) where
   draft-of = record {
     size = ap length draft-is ∙ length-take-le draftSize (recordOf (meaning t)) (omega (arith, record-size (meaning t)));
     count = ap (λ l. getD l 4 0) draft-is ∙ getD-take draftSize (recordOf (meaning t)) 4 0 (omega arith) ∙ record-count (meaning t) few;
-    start = λ h.
-        let used = rowAt (length (meaning t .symbols)) in
-        record-start (meaning t) few
-        ∙ ap (λ l. l ++ zeros (recordSize - used)) (sym (ap (take used) draft-is ∙ take-take used draftSize (recordOf (meaning t)) (omega arith)));
+    start = λ h. sym (take-append-drop draftSize (recordOf (meaning t))) ∙ (λ i. sym draft-is i ++ record-rest (meaning t) few h i);
   }
 
 pub draft-laws : DraftLaws

@@ -7,15 +7,14 @@ use Rattle.token.specs.Padded.{zeros}
 use Rattle.stylinggrammar.specs.Styling.{Spelling, styling}
 use Rattle.stylinggrammar.specs.Meaning.{meaning}
 use Rattle.stylinggrammar.specs.StylingLaws.{Accepted}
-use Rattle.stylinggrammar.specs.Record.{recordSize, draftSize, recordOf, rowAt}
+use Rattle.stylinggrammar.specs.Record.{recordSize, draftSize, recordOf}
 use Rattle.stylinggrammar.specs.Filling.{putStyling}
 
--- a draft tells how many symbol styles there are; where it has room for them, zeros after the last make it the record
+-- a draft tells how many symbol styles there are; where it has room for them, it is the record but for zeros after it
 pub record Drafted (t : Spelling) (draft : List ℕ) : Type 0 where
   pub size : length draft ≡ draftSize
   pub count : getD draft 4 0 ≡ length (meaning t .symbols)
-  pub start : length (meaning t .symbols) ≤ 8
-      → recordOf (meaning t) ≡ take (rowAt (length (meaning t .symbols))) draft ++ zeros (recordSize - rowAt (length (meaning t .symbols)))
+  pub start : length (meaning t .symbols) ≤ 8 → recordOf (meaning t) ≡ draft ++ zeros (recordSize - draftSize)
 
 pub record DraftLaws : Type 0 where
   -- a shorter memory is filled with the start of what a longer one is

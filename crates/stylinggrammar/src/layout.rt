@@ -35,5 +35,7 @@ pub const ZOOMED: u16 = 2;
 pub const MOST_LETTERS: usize = 24;
 
 pub const MOST_STYLES: u16 = 64;
+// how many symbol styles a draft has room for: few stylings have more
+pub const DRAFTED: u16 = 8;
 // the bytes of the longest text of a styling
 pub const LONGEST: usize = 3547;

@@ -1,10 +1,10 @@
 -- Laws of lists in arrays, and of stores one after the other.
-use Prim.Native.Nat.{ℕ, zero, suc, _+_, _≤_, _<_}
+use Prim.Native.Nat.{ℕ, zero, suc, _+_, _-_, _≤_, _<_}
 use native.Mathlib.Nat.{zero-add, suc-add}
 use mathlib.Core.List.{List, [], _∷_, _++_, append-assoc, append-nil}
 use mathlib.Core.Path.{_≡_, refl, sym, ap, _∙_}
-use lib.ListN.{length, getD, set, take, length-append, replicate-append-replicate}
-use lib.Seq.{sets}
+use lib.ListN.{length, getD, set, take, drop, length-append, length-replicate, replicate-append-replicate}
+use lib.Seq.{sets, take-at, drop-at}
 use native.Mathlib.Omega.{arith}
 use Rattle.token.specs.Padded.{padded, zeros}
 
@@ -34,6 +34,12 @@ padded-append [] k n e = ap (λ m. padded m []) (e ∙ zero-add k)
 padded-append (v ∷ l) k zero e = absurd (omega (arith, suc-add (length l) k))
 padded-append (v ∷ l) k (suc n) e = ap (λ m. v ∷ m) (padded-append l k n (omega arith))
 
+pub take-zeros : (n m : ℕ) → take n (zeros (n + m)) ≡ zeros n
+take-zeros n m = ap (take n) (sym (replicate-append-replicate n m 0)) ∙ take-at (zeros n) (zeros m) n (length-replicate n 0)
+
+pub drop-zeros : (n m : ℕ) → drop n (zeros (n + m)) ≡ zeros m
+drop-zeros n m = ap (drop n) (sym (replicate-append-replicate n m 0)) ∙ drop-at (zeros n) (zeros m) n (length-replicate n 0)
+
 pub zeros-append : (n m : ℕ) → zeros (n + m) ≡ padded n [] ++ padded m []
 zeros-append n m = sym (replicate-append-replicate n m 0) ∙ λ i. padded-none n i ++ padded-none m i
 
@@ -51,6 +57,14 @@ take-padded zero [] h = refl
 take-padded zero (v ∷ l) h = absurd (omega arith)
 take-padded (suc k) [] h = refl
 take-padded (suc k) (v ∷ l) h = ap (λ m. v ∷ m) (take-padded k l (omega arith))
+
+-- the zeros after the list
+pub drop-padded : (k : ℕ) (l : List ℕ) → length l ≤ k → drop (length l) (padded k l) ≡ zeros (k - length l)
+unfolding padded
+drop-padded zero [] h = refl
+drop-padded zero (v ∷ l) h = absurd (omega arith)
+drop-padded (suc k) [] h = let e : suc k ≡ suc k - 0 = omega arith in sym (padded-none (suc k)) ∙ ap zeros e
+drop-padded (suc k) (v ∷ l) h = let e : k - length l ≡ suc k - suc (length l) = omega arith in drop-padded k l (omega arith) ∙ ap zeros e
 
 -- a store after the list
 pub padded-put : (k : ℕ) (l : List ℕ) (v : ℕ) → set (padded k l) (length l) v ≡ padded k (l ++ (v ∷ []))

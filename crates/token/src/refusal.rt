@@ -1,4 +1,4 @@
-// The refusal numbers of document 01, "Refusal numbers". What each place means is said there too, and in document 02, Q-5.
+// The refusal numbers of document 01, "Refusal numbers", and of document 02 from 17 on. What each place means is said there too.
 
 // 0 with place 0
 pub const DONE: u8 = 0;

@@ -1,5 +1,5 @@
 use mathlib.Core.Path.{_∙_}
-use Rattle.sign.proofs.Readings.{counted, reading-refused, reading-done}
+use Rattle.sign.proofs.Readings.{laid, reading-refused, reading-done}
 use borrow.Author.Needs.{needs}
 use Rattle.sign.proofs.read.Statement.{statement}
 use Rattle.sign.proofs.read.Tie as tie
@@ -14,7 +14,7 @@ returns : tie.Need-returns
 returns c = reading-refused _ _ _ _ _ _ _ (c .before .before .read-into .ensures) _ (c .before .if1 .taken) (c .no-sign .ensures)
 
 packed-requires : tie.Need-packed-requires
-packed-requires c κs = counted _ _ _ _ _ _ _ (c .before .read-into .ensures) (c .if1 .left)
+packed-requires c κs = laid _ _ _ _ _ _ _ (c .before .read-into .ensures) (c .if1 .left) .counted
 
 returns-2 : tie.Need-returns-2
 returns-2 c = c .packed .ensures ∙ reading-done _ _ _ _ _ _ _ (c .before .before .read-into .ensures) (c .before .if1 .left)

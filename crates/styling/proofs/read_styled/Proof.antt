@@ -1,4 +1,4 @@
-use Rattle.styling.proofs.Entries.{reading-refused, place-inside, ready, counted, reading-done}
+use Rattle.styling.proofs.Entries.{reading-refused, place-inside, ready, laid, reading-done}
 use borrow.Author.Needs.{needs}
 use Rattle.styling.proofs.read_styled.Statement.{statement}
 use Rattle.styling.proofs.read_styled.Tie as tie
@@ -24,14 +24,11 @@ part-fill-start c = place-inside _ _ _ _ _ _ _ (c .before .before .styled-into .
 part-fill-end : tie.Need-part-fill-end
 part-fill-end c = search needs
 
-slice-aggregate-fill : tie.Need-slice-aggregate-fill
-slice-aggregate-fill c = search needs
-
 fill-requires : tie.Need-fill-requires
 fill-requires c κs = ready _ _ _ _ _ _ _ (c .before .before .before .before .before .styled-into .ensures .0) (c .before .before .before .if1 .left) _ (c .before .before .before .before .before .styled-into .ensures .1)
 
 packed-requires : tie.Need-packed-requires
-packed-requires c κs = counted _ _ _ _ _ _ _ (c .before .before .before .before .before .before .styled-into .ensures .0) (c .before .before .before .before .if1 .left)
+packed-requires c κs = laid _ _ _ _ _ _ _ (c .before .before .before .before .before .before .styled-into .ensures .0) (c .before .before .before .before .if1 .left) .counted
 
 returns-2 : tie.Need-returns-2
 returns-2 c = reading-done _ _ _ _ _ _ _ (c .before .before .before .before .before .before .before .styled-into .ensures .0) (c .before .before .before .before .before .if1 .left) _ _ _ (c .packed .ensures) (c .before .fill .ensures)
@@ -47,7 +44,6 @@ read-styled-spec =
     sub-fill
     part-fill-start
     part-fill-end
-    slice-aggregate-fill
     fill-requires
     packed-requires
     returns-2)

@@ -1,5 +1,5 @@
 use native.Mathlib.Omega.{arith}
-use Rattle.styling.proofs.Entries.{transcribed-refused, place-inside, counted, writable, at-most, transcribed-short, transcribed-done}
+use Rattle.styling.proofs.Entries.{transcribed-refused, place-inside, laid, writable, at-most, transcribed-short, transcribed-done}
 use borrow.Author.Needs.{needs}
 use Rattle.styling.proofs.transcribe_styled.Statement.{statement}
 use Rattle.styling.proofs.transcribe_styled.Tie as tie
@@ -26,7 +26,7 @@ other-set-requires : tie.Need-other-set-requires
 other-set-requires c κs = search needs
 
 sign-size-requires : tie.Need-sign-size-requires
-sign-size-requires c κs = let k = counted _ _ _ _ _ _ _ (c .before .before .before .styled-into .ensures .0) (c .before .if1 .left) in (k .prefix, k .symbols)
+sign-size-requires c κs = let k = laid _ _ _ _ _ _ _ (c .before .before .before .styled-into .ensures .0) (c .before .if1 .left) .counted in (k .prefix, k .symbols)
 
 sub-size : tie.Need-sub-size
 sub-size c = place-inside _ _ _ _ _ _ _ (c .before .before .before .before .styled-into .ensures .0) (c .before .before .if1 .left)

@@ -1,5 +1,5 @@
 use mathlib.Core.Path.{refl}
-use Rattle.sign.proofs.Readings.{counted}
+use Rattle.sign.proofs.Readings.{laid}
 use Rattle.halofret.proofs.Counts.{told-done, told-refused}
 use borrow.Author.Needs.{needs}
 use Rattle.halofret.proofs.signs.halofret_read.Statement.{statement}
@@ -15,7 +15,7 @@ cast-t17 : tie.Need-cast-t17
 cast-t17 c = search needs
 
 put-sign-requires : tie.Need-put-sign-requires
-put-sign-requires c κs = counted _ _ _ _ _ _ _ (c .before .before .before .before .before .before .before .read-into .ensures) (c .before .before .before .before .before .if1 .taken)
+put-sign-requires c κs = laid _ _ _ _ _ _ _ (c .before .before .before .before .before .before .before .read-into .ensures) (c .before .before .before .before .before .if1 .taken)
 
 returns : tie.Need-returns
 returns c = rw (← c .before .before .before .before .before .before .before .before .before .before .before .before .before .set-of .ensures) (told-done _ _ _ _ _ _ _ (c .before .before .before .before .before .before .before .before .read-into .ensures) _ _ (c .before .before .before .before .before .before .if1 .taken) (c .put-sign .ensures))

@@ -1,4 +1,4 @@
-use Rattle.styling.proofs.Entries.{place-inside, ready, counted}
+use Rattle.styling.proofs.Entries.{place-inside, ready, laid}
 use Rattle.halofret.proofs.StyledCounts.{styled-refused, styled-done}
 use borrow.Author.Needs.{needs}
 use Rattle.halofret.proofs.stylings.halofret_read_styled.Statement.{statement}
@@ -20,7 +20,7 @@ returns : tie.Need-returns
 returns c = styled-refused _ _ (c .before .before .before .before .before .before .before .before .before .set-of .ensures) _ _ _ _ _ _ (c .before .before .before .styled-into .ensures .0) _ _ (c .before .if1 .taken)
 
 put-sign-requires : tie.Need-put-sign-requires
-put-sign-requires c κs = counted _ _ _ _ _ _ _ (c .before .before .before .before .before .before .before .before .styled-into .ensures .0) (c .before .before .before .before .before .before .if1 .left)
+put-sign-requires c κs = laid _ _ _ _ _ _ _ (c .before .before .before .before .before .before .before .before .styled-into .ensures .0) (c .before .before .before .before .before .before .if1 .left)
 
 sub-fill : tie.Need-sub-fill
 sub-fill c = place-inside _ _ _ _ _ _ _ (c .before .before .before .before .before .before .before .before .before .styled-into .ensures .0) (c .before .before .before .before .before .before .before .if1 .left)
@@ -30,9 +30,6 @@ part-fill-start c = place-inside _ _ _ _ _ _ _ (c .before .before .before .befor
 
 part-fill-end : tie.Need-part-fill-end
 part-fill-end c = search needs
-
-slice-aggregate-fill : tie.Need-slice-aggregate-fill
-slice-aggregate-fill c = search needs
 
 fill-requires : tie.Need-fill-requires
 fill-requires c κs = ready _ _ _ _ _ _ _ (c .before .before .before .before .before .before .before .before .before .before .before .before .styled-into .ensures .0) (c .before .before .before .before .before .before .before .before .before .before .if1 .left) _ (c .before .before .before .before .before .before .before .before .before .before .before .before .styled-into .ensures .1)
@@ -53,6 +50,5 @@ halofret-read-styled-spec =
     sub-fill
     part-fill-start
     part-fill-end
-    slice-aggregate-fill
     fill-requires
     returns-2)
