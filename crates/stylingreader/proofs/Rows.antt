@@ -27,7 +27,7 @@ use Rattle.stylinggrammar.proofs.Styling.{two-digits-delimited, detail-lawful, 
 use Rattle.stylinggrammar.specs.Filling.{rowOf, putRows}
 use Rattle.stylingreader.specs.declared.part.Part.{Part}
 use Rattle.stylingreader.specs.Parts.{Taking, plain, PartIn, PartIs, both, joinedPart, standsAt, failedPart, passedPart, missingPart}
-use Rattle.stylingreader.specs.Takings.{takeNumber, takeDetail, takeZoom, colouring, ofZoom, zooming, takeColouring, takeZooming, sort, styles, takeStyles}
+use Rattle.stylingreader.specs.Takings.{takeNumber, takeDetail, takeZoom, colouring, ofZoom, zooming, takeColouring, takeZooming, kind, styles, takeStyles}
 use Rattle.stylingreader.proofs.Marks.{Stands, stands-other}
 use Rattle.stylingreader.proofs.Fixed.{after-there, after-missing, begun-there}
 use Rattle.stylingreader.proofs.Chains.{Taken, taken, part-as, first-fails, joins, alike-part, after-fails, after-goes, part-beside}
@@ -109,32 +109,32 @@ module _ (s : List ℕ) (at i : ℕ) (r : Part) (o p : List ℕ) (t : Bool) (e :
   comma-there = after-goes 44 decimal (takeZoom i) s at r o p t e
 
 module _ (s : List ℕ) (at row : ℕ) (r : Part) (o p : List ℕ) where
-  pub style-zooming : (zoomed : Bool) → zoomed ≡ true → PartIn zooming (takeZooming row) s at r o p → PartIn (sort zoomed .style) (sort zoomed .take row) s at r o p
+  pub style-zooming : (zoomed : Bool) → zoomed ≡ true → PartIn zooming (takeZooming row) s at r o p → PartIn (kind zoomed .style) (kind zoomed .take row) s at r o p
   style-zooming true e x = x
   style-zooming false e x = false-true e
 
-  pub style-colouring : (zoomed : Bool) → zoomed ≡ false → PartIn colouring (takeColouring row) s at r o p → PartIn (sort zoomed .style) (sort zoomed .take row) s at r o p
+  pub style-colouring : (zoomed : Bool) → zoomed ≡ false → PartIn colouring (takeColouring row) s at r o p → PartIn (kind zoomed .style) (kind zoomed .take row) s at r o p
   style-colouring true e x = true-false e
   style-colouring false e x = x
 
 -- THE LOOP
 
-abbrev one : (zoomed : Bool) → Format (sort zoomed .Says)
-one zoomed = after (sort zoomed .letter) (sort zoomed .style)
+abbrev one : (zoomed : Bool) → Format (kind zoomed .Says)
+one zoomed = after (kind zoomed .letter) (kind zoomed .style)
 
 one-open : (zoomed : Bool) → Open 1 (one zoomed)
 one-open true = symbol-zoom-open
 one-open false = symbol-colours-open
 
-style-lawful : (zoomed : Bool) → Lawful 1 (sort zoomed .style)
+style-lawful : (zoomed : Bool) → Lawful 1 (kind zoomed .style)
 style-lawful true = sequence-lawful 1 twoDigits (λ n. ofZoom) two-digits-lawful λ n ok. after-lawful 44 decimal decimal-lawful
 style-lawful false = sequence-lawful 1 twoDigits (λ n. detail) two-digits-lawful λ n ok. detail-lawful
 
-same-zooms : (zoomed : Bool) (row : ℕ) (a : sort zoomed .Says) → sort zoomed .take row .zooms a ≡ sort zoomed .take 0 .zooms a
+same-zooms : (zoomed : Bool) (row : ℕ) (a : kind zoomed .Says) → kind zoomed .take row .zooms a ≡ kind zoomed .take 0 .zooms a
 same-zooms true row a = refl
 same-zooms false row a = refl
 
-same-names : (zoomed : Bool) (row : ℕ) (a : sort zoomed .Says) → sort zoomed .take row .names a ≡ sort zoomed .take 0 .names a
+same-names : (zoomed : Bool) (row : ℕ) (a : kind zoomed .Says) → kind zoomed .take row .names a ≡ kind zoomed .take 0 .names a
 same-names true row a = refl
 same-names false row a = refl
 
@@ -144,20 +144,20 @@ rows-snoc put k (b ∷ l) a o = rows-snoc put (k + 1) l a (put k b o) ∙ ap (λ
 
 -- What the loop knows: these styles were read up to i, and what is left leads to the same whole.
 pub record RowsInv (zoomed : Bool) (s : List ℕ) (at from n i : ℕ) (zooms names : Bool) (o p : List ℕ) : Type 0 where
-  pub read : List (sort zoomed .Says)
-  pub walk : Walk (after (sort zoomed .letter) (sort zoomed .style)) s at i read
+  pub read : List (kind zoomed .Says)
+  pub walk : Walk (after (kind zoomed .letter) (kind zoomed .style)) s at i read
   pub count : n ≡ min 65 (from + length read)
-  pub good : zooms ≡ every (sort zoomed .take 0 .zooms) read
-  pub brief : names ≡ every (sort zoomed .take 0 .names) read
+  pub good : zooms ≡ every (kind zoomed .take 0 .zooms) read
+  pub brief : names ≡ every (kind zoomed .take 0 .names) read
   pub size : length p ≡ length o
-  pub held : p ≡ putRows (λ k. sort zoomed .take (rowOf k) .put) from read o
+  pub held : p ≡ putRows (λ k. kind zoomed .take (rowOf k) .put) from read o
 
 pub rows-start : (zoomed : Bool) (s : List ℕ) (at from : ℕ) (o : List ℕ) → at ≤ length s → from ≤ 65 → RowsInv zoomed s at from from at true true o o
 rows-start zoomed s at from o h k =
     record { read = []; walk = walk-start (one zoomed) s at h; count = omega arith; good = refl; brief = refl; size = refl; held = refl }
 
 module _ (zoomed : Bool) (s : List ℕ) (at from n i : ℕ) (zooms names : Bool) (o p : List ℕ) (v : RowsInv zoomed s at from n i zooms names o p) where
-  abbrev f : Format (sort zoomed .Says)
+  abbrev f : Format (kind zoomed .Says)
   f = one zoomed
 
   -- THE WAYS OUT
@@ -169,28 +169,28 @@ module _ (zoomed : Bool) (s : List ℕ) (at from n i : ℕ) (zooms names : Bool)
   pub rows-end : length s ≤ i → PartIn (styles zoomed) (takeStyles zoomed from) s at (record { number = 0; place = i; zooms = zooms; names = names; amount = n }) o p
   rows-end h = rows-all (open-end 1 f (one-open zoomed) s at i (v .read) (v .walk) h)
 
-  pub rows-stop : i < length s → (b : ℕ) → b ≡ sort zoomed .letter → (getD s i 0 ≡ b → ⊥)
+  pub rows-stop : i < length s → (b : ℕ) → b ≡ kind zoomed .letter → (getD s i 0 ≡ b → ⊥)
       → PartIn (styles zoomed) (takeStyles zoomed from) s at (record { number = 0; place = i; zooms = zooms; names = names; amount = n }) o p
   rows-stop h b e d =
-      let away : locate f s i ≡ wrongAt i = after-missing (sort zoomed .letter) (sort zoomed .style) s i (stands-other s i (sort zoomed .letter) h (λ z. d (z ∙ sym e))) ∙ rw (lt-ltb i (length s) h) in
+      let away : locate f s i ≡ wrongAt i = after-missing (kind zoomed .letter) (kind zoomed .style) s i (stands-other s i (kind zoomed .letter) h (λ z. d (z ∙ sym e))) ∙ rw (lt-ltb i (length s) h) in
       rows-all (open-stop 1 f (one-open zoomed) s at i (v .read) (v .walk) away)
 
-  module _ (h : i < length s) (b : ℕ) (e : b ≡ sort zoomed .letter) (y : getD s i 0 ≡ b) (row : ℕ) (w : row ≡ rowOf n) (c : Part) (q : List ℕ)
-      (x : PartIn (sort zoomed .style) (sort zoomed .take row) s (i + 1) c p q) where
-    begun : Stands s i (sort zoomed .letter)
+  module _ (h : i < length s) (b : ℕ) (e : b ≡ kind zoomed .letter) (y : getD s i 0 ≡ b) (row : ℕ) (w : row ≡ rowOf n) (c : Part) (q : List ℕ)
+      (x : PartIn (kind zoomed .style) (kind zoomed .take row) s (i + 1) c p q) where
+    begun : Stands s i (kind zoomed .letter)
     begun = record { inside = h; is = y ∙ e }
 
-    style-is : locate f s i ≡ locate (sort zoomed .style) s (i + 1)
-    style-is = after-there (sort zoomed .letter) (sort zoomed .style) s i begun
+    style-is : locate f s i ≡ locate (kind zoomed .style) s (i + 1)
+    style-is = after-there (kind zoomed .letter) (kind zoomed .style) s i begun
 
     never-here : (j : ℕ) → locate f s i ≡ wrongAt j → j ≡ i → ⊥
     never-here j z k = go (strays 1 f (one-open zoomed) s i j z)
       where
         go : Strays f s i j → ⊥
-        go (here a d) = begun-there (sort zoomed .letter) (sort zoomed .style) s i begun d
+        go (here a d) = begun-there (kind zoomed .letter) (kind zoomed .style) s i begun d
         go (later rest a b d) = omega arith
 
-    fails-go : (c .number ≡ 0 → ⊥) → (m : List ℕ) (l : Located (sort zoomed .Says)) → locate (sort zoomed .style) s (i + 1) ≡ l → PartIs (length s) (sort zoomed .take row) l c p q
+    fails-go : (c .number ≡ 0 → ⊥) → (m : List ℕ) (l : Located (kind zoomed .Says)) → locate (kind zoomed .style) s (i + 1) ≡ l → PartIs (length s) (kind zoomed .take row) l c p q
         → PartIn (styles zoomed) (takeStyles zoomed from) s at c o m
     fails-go d m (found a next) z u = absurd (d (u .number))
     fails-go d m (wrongAt j) z u =
@@ -199,12 +199,12 @@ module _ (zoomed : Bool) (s : List ℕ) (at from n i : ℕ) (zooms names : Bool)
         part-as (styles zoomed) (takeStyles zoomed from) s at shortHere c o m (open-cut 1 f (one-open zoomed) s at i (v .read) (v .walk) h (style-is ∙ z)) u
 
     pub rows-fails : (c .number ≡ 0 → ⊥) → (m : List ℕ) → PartIn (styles zoomed) (takeStyles zoomed from) s at c o m
-    rows-fails d m = fails-go d m (locate (sort zoomed .style) s (i + 1)) refl (x .is)
+    rows-fails d m = fails-go d m (locate (kind zoomed .style) s (i + 1)) refl (x .is)
 
     -- THE WAY ON
     module _ (z : c .number ≡ 0) where
-      one-more : Taken (sort zoomed .style) (sort zoomed .take row) s (i + 1) c p q
-      one-more = taken (sort zoomed .style) (sort zoomed .take row) s (i + 1) c p q (style-lawful zoomed) (omega arith) z x
+      one-more : Taken (kind zoomed .style) (kind zoomed .take row) s (i + 1) c p q
+      one-more = taken (kind zoomed .style) (kind zoomed .take row) s (i + 1) c p q (style-lawful zoomed) (omega arith) z x
 
       -- less is left
       pub rows-fall : length s - c .place < length s - i
@@ -221,10 +221,10 @@ module _ (zoomed : Bool) (s : List ℕ) (at from n i : ℕ) (zooms names : Bool)
             read = l ++ (a ∷ []);
             walk = open-on 1 f (one-open zoomed) s at i l (v .walk) a (c .place) (style-is ∙ one-more .is);
             count = omega (arith, g, v .count, length-append l (a ∷ []));
-            good = j ∙ (λ i. v .good i && (k .zooms ∙ same-zooms zoomed row a) i) ∙ sym (every-snoc (sort zoomed .take 0 .zooms) l a);
-            brief = d ∙ (λ i. v .brief i && (k .names ∙ same-names zoomed row a) i) ∙ sym (every-snoc (sort zoomed .take 0 .names) l a);
+            good = j ∙ (λ i. v .good i && (k .zooms ∙ same-zooms zoomed row a) i) ∙ sym (every-snoc (kind zoomed .take 0 .zooms) l a);
+            brief = d ∙ (λ i. v .brief i && (k .names ∙ same-names zoomed row a) i) ∙ sym (every-snoc (kind zoomed .take 0 .names) l a);
             size = r ∙ v .size;
             held =
-                k .holds ∙ (λ i. sort zoomed .take ((w ∙ same) i) .put a (v .held i))
-                ∙ sym (rows-snoc (λ k. sort zoomed .take (rowOf k) .put) from l a o);
+                k .holds ∙ (λ i. kind zoomed .take ((w ∙ same) i) .put a (v .held i))
+                ∙ sym (rows-snoc (λ k. kind zoomed .take (rowOf k) .put) from l a o);
           }

@@ -133,27 +133,27 @@ takeZooming row = record {
 }
 
 -- the two kinds of symbol styles: the letter, what follows it, and how it is taken into a row
-pub record Sort : Type 1 where
+pub record Kind : Type 1 where
   pub Says : Type 0
   pub letter : ℕ
   pub style : Format Says
   pub take : ℕ → Taking Says
 
-abbrev pub sort : Bool → Sort
-sort false = record { Says = ℕ × Detail; letter = code "D"; style = colouring; take = takeColouring }
-sort true = record { Says = ℕ × Decimal; letter = code "Z"; style = zooming; take = takeZooming }
+abbrev pub kind : Bool → Kind
+kind false = record { Says = ℕ × Detail; letter = code "D"; style = colouring; take = takeColouring }
+kind true = record { Says = ℕ × Decimal; letter = code "Z"; style = zooming; take = takeZooming }
 
-abbrev pub styles : (zoomed : Bool) → Format (List (sort zoomed .Says))
-styles zoomed = many (after (sort zoomed .letter) (sort zoomed .style))
+abbrev pub styles : (zoomed : Bool) → Format (List (kind zoomed .Says))
+styles zoomed = many (after (kind zoomed .letter) (kind zoomed .style))
 
 -- styles of which the first has number k; the amount is how many there are with the k before them, or 65. What is within the limits
 -- does not depend on the row.
-abbrev pub takeStyles : (zoomed : Bool) → ℕ → Taking (List (sort zoomed .Says))
+abbrev pub takeStyles : (zoomed : Bool) → ℕ → Taking (List (kind zoomed .Says))
 takeStyles zoomed k = record {
-  zooms = every (sort zoomed .take 0 .zooms);
-  names = every (sort zoomed .take 0 .names);
+  zooms = every (kind zoomed .take 0 .zooms);
+  names = every (kind zoomed .take 0 .names);
   amount = λ l. min 65 (k + length l);
-  put = putRows (λ k. sort zoomed .take (rowOf k) .put) k;
+  put = putRows (λ k. kind zoomed .take (rowOf k) .put) k;
 }
 
 abbrev pub takeSymbols : Taking Symbols

@@ -5,7 +5,7 @@ ghost use lib.ListN.{length};
 ghost use Rattle.stylinggrammar.specs.Styling.{twoDigits, symbols};
 ghost use Rattle.stylinggrammar.specs.Filling.{rowOf};
 ghost use Rattle.stylingreader.specs.Parts.{PartIn};
-ghost use Rattle.stylingreader.specs.Takings.{takeNumber, colouring, ofZoom, zooming, takeZoom, takeColouring, takeZooming, sort, styles, takeStyles, takeSymbols};
+ghost use Rattle.stylingreader.specs.Takings.{takeNumber, colouring, ofZoom, zooming, takeZoom, takeColouring, takeZooming, kind, styles, takeStyles, takeSymbols};
 use super::part::Part;
 use stylinggrammar::layout::COLOURED;
 use stylinggrammar::layout::FIRST_ROW;
@@ -79,7 +79,7 @@ fn zooming_at(s: &[u8], at: usize, to: &mut [u16], row: usize) -> Part
 }
 
 fn letter_of(zoomed: bool) -> u8
-    ensures { λ r. ⌜ r ≡ sort zoomed .letter ⌝ }
+    ensures { λ r. ⌜ r ≡ kind zoomed .letter ⌝ }
 {
     if zoomed {
         return b'Z';
@@ -90,7 +90,7 @@ fn letter_of(zoomed: bool) -> u8
 // What follows the letter of a symbol style.
 fn style_at(s: &[u8], at: usize, to: &mut [u16], row: usize, zoomed: bool) -> Part
     requires { ⌜ (at ≤ length (now s)) × (row ≤ 3472) ⌝ }
-    ensures { λ r. ⌜ PartIn (sort zoomed .style) (sort zoomed .take row) (now (s .entry)) at r (now (to .entry)) (now (to .exit)) ⌝ }
+    ensures { λ r. ⌜ PartIn (kind zoomed .style) (kind zoomed .take row) (now (s .entry)) at r (now (to .entry)) (now (to .exit)) ⌝ }
 {
     if zoomed {
         return zooming_at(s, at, to, row);
