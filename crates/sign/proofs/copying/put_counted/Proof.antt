@@ -1,5 +1,5 @@
 use native.Mathlib.Omega.{arith}
-use Rattle.sign.proofs.Stepping.{counted-many, counted-few}
+use Rattle.sign.proofs.Eights.{counted-many, counted-few}
 use borrow.Author.Needs.{needs}
 use Rattle.sign.proofs.copying.put_counted.Statement.{statement}
 use Rattle.sign.proofs.copying.put_counted.Tie as tie

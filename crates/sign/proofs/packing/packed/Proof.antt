@@ -2,7 +2,7 @@ use mathlib.Core.Path.{refl, _∙_}
 use Rattle.token.specs.Padded.{zeros}
 use Rattle.token.proofs.PaddedLists.{padded-length}
 use Rattle.sign.proofs.Readings.{packed-with}
-use Rattle.sign.proofs.Stepping.{paste-whole}
+use Rattle.sign.proofs.Eights.{paste-whole}
 use borrow.Author.Needs.{needs}
 use Rattle.sign.proofs.packing.packed.Statement.{statement}
 use Rattle.sign.proofs.packing.packed.Tie as tie
