@@ -74,7 +74,7 @@ fn rows(bench: &Bench, set: Charset) {
     }
 }
 
-/// The second row has another yardstick than the reference, which its name tells.
+/// The rows after the first have other yardsticks than the reference, which their names tell.
 fn styled_rows(bench: &Bench, set: Charset) {
     let signs = &StyledSigns::new(&bench.dictionary);
     bench.row(
@@ -83,9 +83,14 @@ fn styled_rows(bench: &Bench, set: Charset) {
         || read_styled_reference(signs, set),
     );
     bench.row(
-        "read_styled, beside the library's read and a walk over the styling",
+        "read_styled, beside the library's read and a walk by the grammar",
         || read_styled_library(signs, set),
-        || read_and_walk(signs, set),
+        || read_and_follow(signs, set),
+    );
+    bench.row(
+        "read_styled, beside the library's read and the class of each byte",
+        || read_styled_library(signs, set),
+        || read_and_classify(signs, set),
     );
 }
 

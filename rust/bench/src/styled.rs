@@ -124,24 +124,110 @@ pub fn read_styled_reference(signs: &StyledSigns, set: Charset) -> Pass {
     })
 }
 
-/// The library reads the sign alone, and each byte of the styling is classified: what a reader
-/// of stylings that kept nothing would have to do.
-pub fn read_and_walk(signs: &StyledSigns, set: Charset) -> Pass {
+/// The library reads the sign alone, and the class of each byte of the styling is found.
+pub fn read_and_classify(signs: &StyledSigns, set: Charset) -> Pass {
+    read_and(signs, set, |styling| u64::from(classify(styling)[0]))
+}
+
+/// The library reads the sign alone, and the styling is followed by its grammar, keeping nothing.
+pub fn read_and_follow(signs: &StyledSigns, set: Charset) -> Pass {
+    read_and(signs, set, |styling| {
+        let good = Walk::over(styling).styling();
+        assert!(good, "the bench's stylings are good");
+        u64::from(good)
+    })
+}
+
+fn read_and(signs: &StyledSigns, set: Charset, then: impl Fn(&[u8]) -> u64) -> Pass {
     let swu = set == Charset::Swu;
     let (mut sign, mut answer) = ([0; raw::HALOFRET_SIGN], [0; 2]);
     timed(|| {
         let mut sum = 0;
         for (text, styling) in signs.halves() {
             unsafe { raw::halofret_read(swu, text.as_ptr(), text.len(), &mut sign, &mut answer) };
-            black_box((&sign, &answer, walk(styling)));
+            black_box((&sign, &answer, then(styling)));
             sum += u64::from(sign[4]);
         }
         sum
     })
 }
 
+/// Follows a styling byte by byte, once.
+struct Walk<'a> {
+    bytes: &'a [u8],
+    at: usize,
+}
+
+impl<'a> Walk<'a> {
+    fn over(bytes: &'a [u8]) -> Walk<'a> {
+        Walk { bytes, at: 0 }
+    }
+
+    fn mark(&mut self, byte: u8) -> bool {
+        let there = self.bytes.get(self.at) == Some(&byte);
+        self.at += usize::from(there);
+        there
+    }
+
+    /// How many bytes pass the test from here on.
+    fn run(&mut self, test: impl Fn(&u8) -> bool) -> usize {
+        let count = self.bytes[self.at..].iter().take_while(|b| test(b)).count();
+        self.at += count;
+        count
+    }
+
+    fn two_digits(&mut self) -> bool {
+        let rest = &self.bytes[self.at..];
+        let good = rest.len() >= 2 && rest[0].is_ascii_digit() && rest[1].is_ascii_digit();
+        self.at += 2 * usize::from(good);
+        good
+    }
+
+    fn colour(&mut self) -> bool {
+        let start = self.at;
+        let letters = self.run(u8::is_ascii_alphabetic);
+        let digits = self.run(u8::is_ascii_hexdigit);
+        let colour = &self.bytes[start..self.at];
+        letters > 0 && digits == 0
+            || matches!(colour.len(), 3 | 6) && colour.iter().all(u8::is_ascii_hexdigit)
+    }
+
+    fn detail(&mut self) -> bool {
+        let line = self.mark(b'_') && self.colour();
+        line && (!self.mark(b',') || self.colour()) && self.mark(b'_')
+    }
+
+    fn zoom(&mut self) -> bool {
+        let digit = u8::is_ascii_digit;
+        self.run(digit) > 0 && (!self.mark(b'.') || self.run(digit) > 0)
+    }
+
+    fn symbols(&mut self) -> bool {
+        let mut good = true;
+        while good && self.mark(b'D') {
+            good = self.two_digits() && self.detail();
+        }
+        while good && self.mark(b'Z') {
+            good = self.two_digits() && self.mark(b',') && self.zoom();
+        }
+        good
+    }
+
+    /// Whether all of it is a styling; its limits are not asked for.
+    fn styling(&mut self) -> bool {
+        let dash = self.mark(b'-');
+        self.mark(b'C');
+        dash && (!self.mark(b'P') || self.two_digits())
+            && (!self.mark(b'G') || self.mark(b'_') && self.colour() && self.mark(b'_'))
+            && (!self.mark(b'D') || self.detail())
+            && (!self.mark(b'Z') || self.zoom())
+            && (!self.mark(b'-') || self.symbols())
+            && self.at == self.bytes.len()
+    }
+}
+
 /// How many bytes there are of each class.
-fn walk(styling: &[u8]) -> [u32; 7] {
+fn classify(styling: &[u8]) -> [u32; 7] {
     let mut counts = [0; 7];
     for &byte in styling {
         counts[CLASSES[usize::from(byte)] as usize] += 1;
