@@ -95,7 +95,7 @@ static int look_up(const uint8_t *dictionary, size_t length, uint16_t *list, siz
     halofret_open(false, dictionary, length, list, room, opened);
     if (opened[0] != HALOFRET_DONE)
         return refused("open", opened[0], opened[1]);
-    halofret_narrow(false, dictionary, length, list, room, (size_t)opened[2],
+    halofret_narrow(false, dictionary, length, list, room, (size_t)opened[2], false, false,
                     (const uint8_t *)query, strlen(query), narrowed);
     if (narrowed[0] != HALOFRET_DONE)
         return refused("narrow", narrowed[0], narrowed[1]);

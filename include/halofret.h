@@ -10,8 +10,13 @@
  * done; answer[1] is its place, but not in halofret_fetch, which tells none.
  *
  * Of several refusals the one named first at the function is given. swu is the character set of
- * the text passed in: false for FSW, true for SWU. A query is always in FSW form. A size list has
- * two bytes, width then height, for each code from 1.
+ * the text passed in: false for FSW, true for SWU. A size list has two bytes, width then height,
+ * for each code from 1.
+ *
+ * A query is passed with its edition. second is false for the first edition, which is in FSW; then
+ * query_swu says nothing. It is true for the second, which joins alternatives of an item by o and
+ * may seek null in the prefix; then query_swu is the query's own character set, whatever that of
+ * the sign or the dictionary.
  *
  * Memory. Lent buffers must not overlap. A pointer that goes with a length or a room of 0 may be
  * null; sign, styling, centre and answer must not be. No call keeps a pointer, takes memory or has
@@ -29,7 +34,7 @@
 #include <stddef.h>
 #include <stdint.h>
 
-#define HALOFRET_VERSION "0.3.0"
+#define HALOFRET_VERSION "0.4.0"
 
 #ifdef __cplusplus
 extern "C" {
@@ -41,8 +46,8 @@ enum {
     HALOFRET_TEXT_WRONG = 1,          /* the text is wrong. Place: the offset of the first wrong
                                          byte, or of the first byte of the coordinate number
                                          that it is in; in SWU, of the four bytes that hold it;
-                                         in a styling always of the byte. The place is 0 where
-                                         the numbers of a styling are wrong */
+                                         in a query and in a styling always of the byte. The
+                                         place is 0 where the numbers of a styling are wrong */
     HALOFRET_TEXT_SHORT = 2,          /* the text stops early. Place: its length */
     HALOFRET_PREFIX_LONG = 3,         /* over 32 prefix symbols or prefix items */
     HALOFRET_SIGNBOX_LONG = 4,        /* over 64 signbox symbols, or 32 signbox items of a query */
@@ -62,7 +67,8 @@ enum {
     HALOFRET_ZOOM_OUTSIDE = 17,       /* a zoom of a styling leaves 0.01 to 99.99, or is spelled
                                          with over two decimals */
     HALOFRET_COLOUR_LONG = 18,        /* a colour name of a styling has over 24 letters */
-    HALOFRET_STYLES_LONG = 19         /* a styling has over 64 symbol styles */
+    HALOFRET_STYLES_LONG = 19,        /* a styling has over 64 symbol styles */
+    HALOFRET_ALTERNATIVES_LONG = 22   /* an item of a query has over 8 alternatives */
 };
 
 /* Sizes: in bytes those of texts and of the size list, else in numbers. */
@@ -77,6 +83,7 @@ enum {
     HALOFRET_MOST_PREFIX = 32,
     HALOFRET_MOST_SYMBOLS = 64,
     HALOFRET_MOST_ITEMS = 32,
+    HALOFRET_MOST_ALTERNATIVES = 8,
     HALOFRET_MOST_LINES = 65535,
     HALOFRET_MOST_COLOUR = 24,
     HALOFRET_MOST_ZOOM = 9999,
@@ -179,15 +186,16 @@ void halofret_centred(bool swu, const uint8_t *text, size_t len, const uint8_t *
                       size_t sizes_len, uint8_t *out, size_t room,
                       uint64_t answer[HALOFRET_WRITTEN_ANSWER]);
 
-/* Says whether a query can be read. Refusals 1, 2, 3, 4, 5. */
-void halofret_read_query(const uint8_t *query, size_t query_len,
+/* Says whether a query can be read. Refusals 1, 2, 3, 4, 22, 5. */
+void halofret_read_query(bool second, bool query_swu, const uint8_t *query, size_t query_len,
                          uint64_t answer[HALOFRET_QUERY_ANSWER]);
 
 /* Whether the sign meets the query: answer[2] is 1 if so, and answer[4..35] then has for each
  * signbox item its first fitting symbol, from 1; otherwise answer[3] is the first condition unmet,
- * 0 for the prefix. Refusals of the query 1, 2, 3, 4, 5, then of the sign 1, 2, 3, 4. */
-void halofret_verdict(bool swu, const uint8_t *query, size_t query_len, const uint8_t *text,
-                      size_t len, uint64_t answer[HALOFRET_VERDICT_ANSWER]);
+ * 0 for the prefix. Refusals of the query 1, 2, 3, 4, 22, 5, then of the sign 1, 2, 3, 4. */
+void halofret_verdict(bool swu, bool second, bool query_swu, const uint8_t *query,
+                      size_t query_len, const uint8_t *text, size_t len,
+                      uint64_t answer[HALOFRET_VERDICT_ANSWER]);
 
 /* Reads every line of a dictionary and writes 1 to the line count at the start of list; the count
  * in answer[2]. Room and place count entries. Refusals 12, 14, 13, 6. */
@@ -196,9 +204,9 @@ void halofret_open(bool swu, const uint8_t *dict, size_t dict_len, uint16_t *lis
 
 /* Narrows the first n entries of list to those that meet the query: they come first, rising, then
  * zeros to n, nothing changed beyond. answer[2] is how many were kept, answer[3] how many dropped.
- * Refusals 1, 2, 3, 4, 5 of the query, then 12, 14, 11, 13 for the first bad line listed. */
+ * Refusals 1, 2, 3, 4, 22, 5 of the query, then 12, 14, 11, 13 for the first bad line listed. */
 void halofret_narrow(bool swu, const uint8_t *dict, size_t dict_len, uint16_t *list, size_t room,
-                     size_t n, const uint8_t *query, size_t query_len,
+                     size_t n, bool second, bool query_swu, const uint8_t *query, size_t query_len,
                      uint64_t answer[HALOFRET_NARROW_ANSWER]);
 
 /* Finds a line by a number that runs on from the first dictionary into the second. answer[1] is 0

@@ -4,7 +4,7 @@ use mathlib.Core.List.{List}
 use mathlib.Core.Bool.{Bool}
 use Rattle.charset.specs.declared.Charset.{Charset}
 use Rattle.token.specs.Result.{Result, onDone}
-use Rattle.query.specs.Reading.{queryOf}
+use Rattle.query.specs.Reading.{Asked, queryAsked}
 use Rattle.lines.specs.Checked.{lineCount}
 use Rattle.narrowing.specs.declared.Narrowed.{Narrowed}
 use Rattle.narrowing.specs.Narrowing.{rising, narrowedBy}
@@ -12,10 +12,10 @@ use Rattle.entries.specs.Entries.{readable}
 use Rattle.entries.specs.Judging.{meets}
 
 -- a query's refusal, or its test of an entry
-abbrev pub testOf : Charset → List ℕ → List ℕ → Result (ℕ → Bool)
-testOf set dict query = onDone (meets set dict) (queryOf query)
+abbrev pub testOf : Charset → List ℕ → Asked → Result (ℕ → Bool)
+testOf set dict query = onDone (meets set dict) (queryAsked query)
 
 -- what a call answers, and the list memory after it; refused as the query is, then as 12, 14, 11, then 13
-unfoldable pub narrowed : Charset → List ℕ → List ℕ → ℕ → List ℕ → Narrowed × List ℕ
+unfoldable pub narrowed : Charset → List ℕ → List ℕ → ℕ → Asked → Narrowed × List ℕ
 narrowed set dict list n query =
     narrowedBy (testOf set dict query) (lineCount dict) rising (readable set dict) list n

@@ -16,6 +16,7 @@ use list::marks::mark;
 use list::rising::is_rising;
 use narrowing::Narrowed;
 use narrowing::not_narrowed;
+use querygrammar::Edition;
 use queryitem::words::WORDS;
 use token::refusal::DONE;
 use token::refusal::LINE_WRONG;
@@ -65,15 +66,16 @@ pub fn narrow_with(
     dict: &[u8],
     list: &mut [u16],
     n: usize,
+    edition: Edition,
     query: &[u8],
     flags: &mut [u8],
 ) -> Narrowed
     requires { ⌜ (fewLines (now dict) ≡ true → length (linesOf (now dict)) < length (now flags)) ⌝ }
-    ensures answer { λ r. ⌜ (r, now (list .exit)) ≡ narrowed set (now (dict .entry)) (now (list .entry)) n (now (query .entry)) ⌝ }
+    ensures answer { λ r. ⌜ (r, now (list .exit)) ≡ narrowed set (now (dict .entry)) (now (list .entry)) n (edition, now (query .entry)) ⌝ }
     ensures working { λ _. ⌜ Working (now (flags .entry)) (now (flags .exit)) ⌝ }
 {
     let mut words = [0u16; WORDS];
-    let q = query::words::read_into(query, &mut words);
+    let q = query::words::read_into(edition, query, &mut words);
     let number = q.number;
     if number != DONE {
         return not_narrowed(number, q.place);

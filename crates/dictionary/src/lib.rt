@@ -6,6 +6,7 @@ ghost use Rattle.dictionary.specs.Narrowing.{narrowed};
 use charset::Charset;
 use lines::checked::count_lines;
 use narrowing::Narrowed;
+use querygrammar::Edition;
 use token::refusal::DONE;
 use token::refusal::LINE_WRONG;
 use token::refusal::ROOM_SHORT;
@@ -57,9 +58,16 @@ pub fn open(set: Charset, dict: &[u8], list: &mut [u16]) -> Opened
 
 // Of the first n entries of the list, keeps those that meet the query in front, with zeros in the places after them up to n:
 // refused as the query is, then as 12, 14, 11, 13.
-pub fn narrow(set: Charset, dict: &[u8], list: &mut [u16], n: usize, query: &[u8]) -> Narrowed
-    ensures { λ r. ⌜ (r, now (list .exit)) ≡ narrowed set (now (dict .entry)) (now (list .entry)) n (now (query .entry)) ⌝ }
+pub fn narrow(
+    set: Charset,
+    dict: &[u8],
+    list: &mut [u16],
+    n: usize,
+    edition: Edition,
+    query: &[u8],
+) -> Narrowed
+    ensures { λ r. ⌜ (r, now (list .exit)) ≡ narrowed set (now (dict .entry)) (now (list .entry)) n (edition, now (query .entry)) ⌝ }
 {
     let mut flags = [0u8; 65536];
-    lent::narrow_with(set, dict, list, n, query, &mut flags)
+    lent::narrow_with(set, dict, list, n, edition, query, &mut flags)
 }

@@ -49,11 +49,6 @@ solid-go w f t v ok (b ∷ u) e = omega arith
 pub solid : {A : Type 0} (w : ℕ) (f : Format A) → Delimited w f → (v : A) → f .Valid v → 1 ≤ length (f .write v)
 solid w f t v ok = solid-go w f t v ok (f .write v) refl
 
--- where another format's unit stands, there is one
-pub nonempty : {A : Type 0} (w : ℕ) (f : Format A) → Delimited w f → (text : List ℕ) → f .read text ≡ other → 1 ≤ length text
-nonempty w f t [] e = absurd (let x = sym (t .empty) ∙ e in let z : _≡_ {A = ℕ} 0 1 = cc in omega arith)
-nonempty w f t (b ∷ text) e = omega arith
-
 pub second-firm : {B C : Type 0} (c : B → C) (text rest : List ℕ) (r : Answer B) → ((left : List ℕ) → r ≡ wrong left → length left < length text)
     → second c text r ≡ wrong rest → length rest ≤ length text
 second-firm c text rest (value b left) firm e = value-wrong e

@@ -14,9 +14,8 @@ use Rattle.format.specs.Places.{Outcome, fine, refused, endsShort, outco
 use Rattle.format.specs.Located.{Located, found, wrongAt, shortHere, located, locate, andThen, onFound, ended}
 use Rattle.format.proofs.Lawful.{Lawful, Says}
 use Rattle.format.proofs.Begun.{sequence-begun, absent-other, absent-reads}
-use Rattle.format.proofs.Delimited.{Delimited, nonempty}
-use Rattle.format.proofs.At.{sequence-at, Strays, here, later, wronged}
-use Rattle.format.proofs.Open.{Open, delimited-open}
+use Rattle.format.proofs.At.{got, sequence-at-got, Strays, here, later, firm-strays}
+use Rattle.format.proofs.Open.{Open, nonempty}
 use Rattle.format.proofs.Loop.{many-on, many-done, many-bad, many-cut, many-end}
 
 unfoldable pub onFine : {A B : Type 0} → (A → B) → Outcome A → Outcome B
@@ -141,12 +140,9 @@ oneOrMore size (found (a ∷ l) i) = found (a, l) i
 oneOrMore size (wrongAt p) = wrongAt p
 oneOrMore size shortHere = shortHere
 
-module _ {A : Type 0} (w : ℕ) (f : Format A) (d : Delimited w f) (s : List ℕ) (at : ℕ) (h : at ≤ length s) where
+module _ {A : Type 0} (w : ℕ) (f : Format A) (o : Open w f) (s : List ℕ) (at : ℕ) (h : at ≤ length s) where
   abbrev goes : A → ℕ → Located (A × List A)
   goes a i = onFound (λ l. (a, l)) (locate (many f) s i)
-
-  o : Open w f
-  o = delimited-open w f d
 
   more-go : (a : A) (m : Located (List A)) → onFound {B = A × List A} (λ l. (a, l)) m ≡ oneOrMore (length s) (onFound (λ l. a ∷ l) m)
   more-go a (found l i) = refl
@@ -155,7 +151,7 @@ module _ {A : Type 0} (w : ℕ) (f : Format A) (d : Delimited w f) (s : List ℕ
 
   wrong-go : (p : ℕ) → locate f s at ≡ wrongAt p → Strays f s at p → wrongAt p ≡ oneOrMore (length s) (locate (many f) s at)
   wrong-go p e (here z y) =
-      let k : at < length s = omega (arith, nonempty w f d (drop at s) y, length-drop at s) in
+      let k : at < length s = omega (arith, nonempty w f o (drop at s) y, length-drop at s) in
       sym (ap (oneOrMore (length s)) (many-done w f o s at h (e ∙ ap wrongAt z)) ∙ rw (lt-ltb at (length s) k) (ap wrongAt (sym z)))
   wrong-go p e (later rest z k y) = sym (ap (oneOrMore (length s)) (many-bad w f o s at p e (λ q. omega arith)))
 
@@ -167,8 +163,8 @@ module _ {A : Type 0} (w : ℕ) (f : Format A) (d : Delimited w f) (s : List ℕ
 
   one-go : (x : Located A) → locate f s at ≡ x → andThen x goes ≡ oneOrMore (length s) (locate (many f) s at)
   one-go (found a i) e = more-go a (locate (many f) s i) ∙ ap (oneOrMore (length s)) (sym (many-on w f o s at h a i e))
-  one-go (wrongAt p) e = wrong-go p e (wronged w f d s at p e)
+  one-go (wrongAt p) e = wrong-go p e (firm-strays f (o .firm) s at p e)
   one-go shortHere e = cut-go e (ltb at (length s)) refl
 
   pub one-or-more : locate (sequence f λ a. many f) s at ≡ oneOrMore (length s) (locate (many f) s at)
-  one-or-more = sequence-at w f (λ a. many f) d s at ∙ one-go (locate f s at) refl
+  one-or-more = sequence-at-got f (λ a. many f) s at (got w f (o .lawful) s at h) ∙ one-go (locate f s at) refl

@@ -19,6 +19,11 @@ pub record Open (w : ℕ) {A : Type 0} (f : Format A) : Type 0 where
 pub delimited-open : {A : Type 0} (w : ℕ) (f : Format A) → Delimited w f → Open w f
 delimited-open w f d = record { lawful = d .lawful; solid = solid w f d; empty = d .empty; firm = d .firm }
 
+-- where another format's unit stands, there is one
+pub nonempty : {A : Type 0} (w : ℕ) (f : Format A) → Open w f → (text : List ℕ) → f .read text ≡ other → 1 ≤ length text
+nonempty w f o [] e = absurd (let x = sym (o .empty) ∙ e in let z : _≡_ {A = ℕ} 0 1 = cc in omega arith)
+nonempty w f o (b ∷ text) e = omega arith
+
 pub sequence-open : {A B : Type 0} (w : ℕ) (f : Format A) (g : A → Format B) → Open w f → ((a : A) → f .Valid a → Firm (g a))
     → ((a : A) → f .Valid a → Lawful w (g a)) → Open w (sequence f g)
 sequence-open w f g d firm l = record {

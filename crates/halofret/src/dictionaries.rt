@@ -4,9 +4,10 @@ ghost use Rattle.token.specs.Result.{output};
 ghost use Rattle.dictionary.specs.Opening.{opening, opened};
 ghost use Rattle.dictionary.specs.Narrowing.{narrowed};
 ghost use Rattle.fetching.specs.Fetching.{fetching};
-ghost use Rattle.layout.specs.Layouts.{setOf};
+ghost use Rattle.layout.specs.Layouts.{setOf, editionOf};
 ghost use Rattle.layout.specs.Dictionaries.{openedNumbers, narrowedNumbers, fetchedNumbers};
 use layout::fetched::line_numbers;
+use layout::numbers::edition_of;
 use layout::numbers::narrowed_numbers;
 use layout::numbers::opened_numbers;
 use layout::numbers::set_of;
@@ -29,13 +30,16 @@ pub extern "C" fn halofret_narrow(
     dict: &[u8],
     list: &mut [u16],
     n: usize,
+    second: bool,
+    query_swu: bool,
     query: &[u8],
     answer: &mut [u64; 4],
 )
-    ensures answer { λ _. ⌜ now (answer .exit) ≡ narrowedNumbers (narrowed (setOf swu) (now (dict .entry)) (now (list .entry)) n (now (query .entry)) .0) ⌝ }
-    ensures memory { λ _. ⌜ now (list .exit) ≡ narrowed (setOf swu) (now (dict .entry)) (now (list .entry)) n (now (query .entry)) .1 ⌝ }
+    ensures answer { λ _. ⌜ now (answer .exit) ≡ narrowedNumbers (narrowed (setOf swu) (now (dict .entry)) (now (list .entry)) n (editionOf second «query_swu», now (query .entry)) .0) ⌝ }
+    ensures memory { λ _. ⌜ now (list .exit) ≡ narrowed (setOf swu) (now (dict .entry)) (now (list .entry)) n (editionOf second «query_swu», now (query .entry)) .1 ⌝ }
 {
-    *answer = narrowed_numbers(dictionary::narrow(set_of(swu), dict, list, n, query));
+    let edition = edition_of(second, query_swu);
+    *answer = narrowed_numbers(dictionary::narrow(set_of(swu), dict, list, n, edition, query));
 }
 
 // Where the line of this number lies: 0 for the first dictionary and 1 for the second, its start there and its length,

@@ -15,6 +15,8 @@ use Rattle.sign.specs.declared.Reading.{Reading}
 use Rattle.bounds.specs.declared.groups.Groups.{Groups}
 use Rattle.bounds.specs.Centre.{head, headWithTrunk, all, boxOf}
 use Rattle.geometry.specs.declared.Bounds.{Bounds}
+use Rattle.querygrammar.specs.declared.Edition.{Edition}
+use Rattle.querygrammar.specs.declared.Edition.the-variants.{First, Second}
 use Rattle.query.specs.declared.Reading.{Reading as QueryReading}
 use Rattle.matching.specs.declared.Verdict.{Verdict}
 
@@ -22,6 +24,11 @@ use Rattle.matching.specs.declared.Verdict.{Verdict}
 abbrev pub setOf : Bool → Charset
 setOf false = Fsw
 setOf true = Swu
+
+-- C's bools for the edition of a query: whether it is the second, and then its character set
+abbrev pub editionOf : Bool → Bool → Edition
+editionOf false swu = First
+editionOf true swu = Second (setOf swu)
 
 abbrev pub flag : Bool → ℕ
 flag b = cond b 1 0

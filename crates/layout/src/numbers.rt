@@ -1,10 +1,11 @@
 // The character set, and answers of a few numbers.
 ghost use mathlib.Core.Path.{_≡_};
-ghost use Rattle.layout.specs.Layouts.{setOf, codeNumbers, writtenNumbers};
+ghost use Rattle.layout.specs.Layouts.{setOf, editionOf, codeNumbers, writtenNumbers};
 ghost use Rattle.layout.specs.Dictionaries.{openedNumbers, narrowedNumbers};
 use charset::Charset;
 use dictionary::Opened;
 use narrowing::Narrowed;
+use querygrammar::Edition;
 use symbol::Code;
 use token::Written;
 
@@ -16,6 +17,16 @@ pub fn set_of(swu: bool) -> Charset
         return Charset::Swu;
     }
     Charset::Fsw
+}
+
+// The first edition or the second, whose character set is named.
+pub fn edition_of(second: bool, swu: bool) -> Edition
+    ensures { λ r. ⌜ r ≡ editionOf second swu ⌝ }
+{
+    if second {
+        return Edition::Second(set_of(swu));
+    }
+    Edition::First
 }
 
 pub fn code_numbers(c: Code) -> [u64; 3]

@@ -10,8 +10,9 @@ use native.Mathlib.Omega.{arith}
 use borrow.Author.Tests.{leb-true, le-leb, eqb-true, eq-eqb}
 use Rattle.format.specs.Format.{choose}
 use Rattle.grammar.specs.Sign.{Spatial}
-use Rattle.querygrammar.specs.Query.{Item, keyItem, rangeItem, Prefix, free, present, begins, Sought}
-use Rattle.matching.specs.Meets.{Agrees, Fits, Satisfies, Begins, PrefixHolds, Within, Near, Serves, baseOf, fillOf, rotationOf, agrees, fits, satisfies, beginsBy, prefixHolds, within, near, serves}
+use Rattle.querygrammar.specs.Spelling.{Item, keyItem, rangeItem, nullItem}
+use Rattle.querygrammar.specs.Query.{Prefix, free, present, begins, Sought}
+use Rattle.matching.specs.Meets.{Agrees, Satisfies, SatisfiesOne, Begins, PrefixHolds, Within, Near, Serves, baseOf, fillOf, rotationOf, agrees, satisfies, satisfiesOne, beginsBy, prefixHolds, within, near, serves}
 
 pub clash : {X : Type 0} {t : Bool} → t ≡ true → t ≡ false → X
 clash p q = absurd (let z : _≡_ {A = ℕ} 0 1 = ap (λ b. choose b 0 1) (sym p ∙ q) in omega arith)
@@ -86,28 +87,31 @@ agrees-decides : (given : Option ℕ) (digit : ℕ) → Decides (agrees given di
 agrees-decides none digit = always
 agrees-decides (some given) digit = equal digit given
 
-fits-decides : (item : Item) (code : ℕ) → Decides (fits item code) (Fits item code)
-fits-decides (keyItem base fill rotation) code =
-    both (equal (baseOf code) base) (both (agrees-decides fill (fillOf code)) (agrees-decides rotation (rotationOf code)))
-fits-decides (rangeItem from to) code = both (at-most from (baseOf code)) (at-most (baseOf code) to)
-
 pub satisfies-decides : (item : Item) (code : ℕ) → Decides (satisfies item code) (Satisfies item code)
 unfolding satisfies
-satisfies-decides item code = both (negated (equal code 0)) (fits-decides item code)
+satisfies-decides (keyItem base fill rotation) code =
+    both (negated (equal code 0)) (both (equal (baseOf code) base) (both (agrees-decides fill (fillOf code)) (agrees-decides rotation (rotationOf code))))
+satisfies-decides (rangeItem from to) code = both (negated (equal code 0)) (both (at-most from (baseOf code)) (at-most (baseOf code) to))
+satisfies-decides nullItem code = equal code 0
+
+pub one-decides : (l : List Item) (code : ℕ) → Decides (satisfiesOne l code) (SatisfiesOne l code)
+unfolding satisfiesOne
+one-decides [] code = never
+one-decides (item ∷ l) code = either (satisfies-decides item code) (one-decides l code)
 
 -- THE CONDITIONS
 
-begins-decides : (items : List Item) (codes : List ℕ) → Decides (beginsBy satisfies items codes) (Begins items codes)
+begins-decides : (lists : List (List Item)) (codes : List ℕ) → Decides (beginsBy satisfiesOne lists codes) (Begins lists codes)
 begins-decides [] codes = always
-begins-decides (item ∷ items) [] = never
-begins-decides (item ∷ items) (code ∷ codes) = both (satisfies-decides item code) (begins-decides items codes)
+begins-decides (l ∷ lists) [] = never
+begins-decides (l ∷ lists) (code ∷ codes) = both (one-decides l code) (begins-decides lists codes)
 
 pub prefix-decides : (p : Prefix) (codes : List ℕ) → Decides (prefixHolds p codes) (PrefixHolds p codes)
 unfolding prefixHolds
 prefix-decides free codes = always
 prefix-decides present [] = never
 prefix-decides present (code ∷ codes) = always
-prefix-decides (begins items) codes = begins-decides items codes
+prefix-decides (begins lists) codes = begins-decides lists codes
 
 within-decides : (variance a b : ℕ) → Decides (within variance a b) (Within variance a b)
 within-decides variance a b = both (at-most a (b + variance)) (at-most b (a + variance))
@@ -118,4 +122,4 @@ near-decides variance (some p) symbol = both (within-decides variance (p .0) (sy
 
 pub serves-decides : (variance : ℕ) (sought : Sought) (symbol : Spatial) → Decides (serves variance sought symbol) (Serves variance sought symbol)
 unfolding serves
-serves-decides variance sought symbol = both (satisfies-decides (sought .item) (symbol .code)) (near-decides variance (sought .coordinate) symbol)
+serves-decides variance sought symbol = both (one-decides (sought .alternatives) (symbol .code)) (near-decides variance (sought .coordinate) symbol)

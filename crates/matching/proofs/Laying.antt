@@ -14,11 +14,11 @@ use Rattle.token.specs.Padded.{padded}
 use Rattle.token.proofs.PaddedLists.{padded-length, padded-append}
 use Rattle.writer.specs.Arrays.{upto}
 use Rattle.writer.proofs.Upto.{upto-is, map-upto}
-use Rattle.querygrammar.specs.Query.{Item, rangeItem, Prefix, free, present, begins, Sought, Query, itemsOf, kindOf, ValidItem, ValidSought, ValidQuery}
-use Rattle.queryitem.specs.Numbers.{xOf, yOf, bareItem}
-use Rattle.queryitem.specs.Words.{wordCount, itemWords, rowWords, rowsWords, wordsOf}
-use Rattle.queryitem.proofs.Rows.{rows-append, words-room}
-use Rattle.matching.specs.Meets.{beginsBy, firstFrom, unmet, judged, satisfies, prefixHolds, serves, witnessesOf, verdictOf}
+use Rattle.querygrammar.specs.Spelling.{Item}
+use Rattle.querygrammar.specs.Query.{Prefix, free, present, begins, Sought, Query, listsOf, kindOf, ValidItem, ValidSought, ValidQuery}
+use Rattle.queryitem.specs.Words.{wordCount, rowWords, rowsWords, bare, wordsOf}
+use Rattle.queryitem.proofs.Rows.{rows-append, items-size}
+use Rattle.matching.specs.Meets.{beginsBy, firstFrom, unmet, judged, satisfiesOne, prefixHolds, serves, witnessesOf, verdictOf}
 use Rattle.matching.specs.Inner.{word, servesAt, after, offset, Laid, fitsAt, prefixWords, judgedWords, verdictWords}
 use Rattle.matching.proofs.Words.{third-word, fits-row, serves-row}
 
@@ -39,16 +39,16 @@ module _ (words : List ℕ) (at : ℕ) (s : Sought) (l : List Sought) (v : Stand
   row-first : drop at words ≡ rowWords s ++ left
   row-first = v .is ∙ append-assoc (rowWords s) (rowsWords l) (v .rest)
 
-  row-count : word words (at + 2) ≡ 1
-  row-count = third-word words at (xOf (s .coordinate)) (yOf (s .coordinate)) 1 (itemWords (s .item) ++ left) row-first
+  row-count : word words (at + 2) ≡ length (s .alternatives)
+  row-count = third-word words at _ _ _ _ row-first
 
   pub standing-on : Standing words (after words at) l
   standing-on =
-      let k : after words at ≡ at + length (rowWords s) = let n = row-count in omega arith in
+      let k : after words at ≡ at + length (rowWords s) = omega (arith, row-count, items-size (s .alternatives)) in
       record { rest = v .rest; is = ap (λ i. drop i words) k ∙ onward words (rowWords s) left at row-first }
 
   pub standing-inside : after words at ≤ length words
-  standing-inside = omega (arith, row-count, ap length row-first, length-append (rowWords s) left, length-drop at words)
+  standing-inside = omega (arith, row-count, items-size (s .alternatives), ap length row-first, length-append (rowWords s) left, length-drop at words)
 
 -- row j of those from an offset on
 abbrev rowFrom : List ℕ → ℕ → ℕ → ℕ
@@ -63,11 +63,8 @@ offset-from : (words : List ℕ) (j : ℕ) → offset words j ≡ rowFrom words 
 offset-from words zero = refl
 offset-from words (suc j) = ap (after words) (offset-from words j) ∙ sym (from-after words 4 j)
 
-abbrev noItem : Item
-noItem = rangeItem 0 0
-
 abbrev noRow : Sought
-noRow = bareItem noItem
+noRow = bare []
 
 -- what stands at row j
 pub record RowAt (words : List ℕ) (at : ℕ) (s : Sought) : Type 0 where
@@ -88,30 +85,30 @@ all-at P (a ∷ l) d p (suc i) h = all-at P l d (p .1) i (omega arith)
 -- THE WORDS OF A QUERY
 
 module _ (q : Query) where
-  abbrev asked : List Item
-  asked = itemsOf (q .prefix)
+  abbrev asked : List (List Item)
+  asked = listsOf (q .prefix)
 
   abbrev bares : List Sought
-  bares = map bareItem asked
+  bares = map bare asked
 
   abbrev words : List ℕ
   words = padded wordCount (wordsOf q)
 
   bares-length : length bares ≡ length asked
-  bares-length = length-map asked bareItem
+  bares-length = length-map asked bare
 
-  bare-go : (p : Prefix) → kindOf p ≡ 1 → length (itemsOf p) ≡ 0
+  bare-go : (p : Prefix) → kindOf p ≡ 1 → length (listsOf p) ≡ 0
   bare-go free e = refl
   bare-go present e = refl
   bare-go (begins l) e = absurd (omega arith)
 
-  module _ (few : length asked ≤ 32) (few-items : length (q .items) ≤ 32) where
+  module _ (few : length asked ≤ 32) (few-items : length (q .items) ≤ 32) (room : length (wordsOf q) ≤ wordCount) where
     abbrev rest : List ℕ
     rest = padded (wordCount - length (wordsOf q)) []
 
     begin : words ≡ kindOf (q .prefix) ∷ length asked ∷ length (q .items) ∷ q .variance ∷ ((rowsWords bares ++ rowsWords (q .items)) ++ rest)
     unfolding wordsOf
-    begin = let h = words-room q few few-items in padded-append (wordsOf q) (wordCount - length (wordsOf q)) wordCount (omega arith)
+    begin = padded-append (wordsOf q) (wordCount - length (wordsOf q)) wordCount (omega arith)
 
     kind-is : word words 0 ≡ kindOf (q .prefix)
     kind-is = ap (λ l. getD l 0 0) begin
@@ -132,10 +129,10 @@ module _ (q : Query) where
     whole-at : (j : ℕ) → j < length (bares ++ q .items) → RowAt words (offset words j) (getD (bares ++ q .items) j noRow)
     whole-at j h = rw (offset-from words j) (row-at words 4 (bares ++ q .items) standing j h)
 
-    asked-at : (j : ℕ) → j < length asked → RowAt words (offset words j) (bareItem (getD asked j noItem))
+    asked-at : (j : ℕ) → j < length asked → RowAt words (offset words j) (bare (getD asked j []))
     asked-at j h =
         let k = bares-length in
-        let e : getD (bares ++ q .items) j noRow ≡ bareItem (getD asked j noItem) = List·getD-append bares (q .items) noRow j (omega arith) ∙ List·getD-map bareItem asked j noItem in
+        let e : getD (bares ++ q .items) j noRow ≡ bare (getD asked j []) = List·getD-append bares (q .items) noRow j (omega arith) ∙ List·getD-map bare asked j [] in
         rw e at (whole-at j (omega (arith, length-append bares (q .items))))
 
     item-at : (j : ℕ) → j < length (q .items) → RowAt words (offset words (word words 1 + j)) (getD (q .items) j noRow)
@@ -155,10 +152,10 @@ module _ (q : Query) where
     -- THE VERDICT
 
     module _ (valid : ValidQuery q) where
-      fits-same : (j : ℕ) → j < length asked → (code : ℕ) → fitsAt words (offset words j) code ≡ satisfies (getD asked j noItem) code
+      fits-same : (j : ℕ) → j < length asked → (code : ℕ) → fitsAt words (offset words j) code ≡ satisfiesOne (getD asked j []) code
       fits-same j h code =
           let r = asked-at j h in
-          fits-row words (offset words j) (bareItem (getD asked j noItem)) (r .rest) (r .is) (all-at ValidItem asked noItem (valid .prefix) j h, tt) code
+          fits-row words (offset words j) (bare (getD asked j [])) (r .rest) (r .is) (all-at (All ValidItem) asked [] (valid .prefix) j h, tt) code
 
       abbrev apply : (ℕ → Bool) → ℕ → Bool
       apply f code = f code
@@ -168,21 +165,21 @@ module _ (q : Query) where
       begins-map test (a ∷ l) [] = refl
       begins-map test (a ∷ l) (c ∷ codes) = ap (λ r. test a c && r) (begins-map test l codes)
 
-      tests-same : upto (λ j. fitsAt words (offset words j)) (word words 1) ≡ map satisfies asked
+      tests-same : upto (λ j. fitsAt words (offset words j)) (word words 1) ≡ map satisfiesOne asked
       tests-same =
-          let k = length-map asked satisfies in
+          let k = length-map asked satisfiesOne in
           ap (upto (λ j. fitsAt words (offset words j))) (asked-is ∙ sym k)
-          ∙ upto-is (λ j. fitsAt words (offset words j)) (map satisfies asked) (satisfies noItem) (λ j h.
+          ∙ upto-is (λ j. fitsAt words (offset words j)) (map satisfiesOne asked) (satisfiesOne []) (λ j h.
           let n : j < length asked = omega arith in
-          (λ i code. fits-same j n code i) ∙ sym (List·getD-map satisfies asked j noItem))
+          (λ i code. fits-same j n code i) ∙ sym (List·getD-map satisfiesOne asked j []))
 
-      begins-same : (codes : List ℕ) → beginsBy (fitsAt words) (upto (offset words) (word words 1)) codes ≡ beginsBy satisfies asked codes
+      begins-same : (codes : List ℕ) → beginsBy (fitsAt words) (upto (offset words) (word words 1)) codes ≡ beginsBy satisfiesOne asked codes
       begins-same codes =
           begins-map (fitsAt words) (upto (offset words) (word words 1)) codes
           ∙ ap (λ l. beginsBy apply l codes) (map-upto (fitsAt words) (offset words) (word words 1) ∙ tests-same)
-          ∙ sym (begins-map satisfies asked codes)
+          ∙ sym (begins-map satisfiesOne asked codes)
 
-      prefix-go : (p : Prefix) (codes : List ℕ) → choose (eqb (kindOf p) 1) (ltb 0 (length codes)) (beginsBy satisfies (itemsOf p) codes) ≡ prefixHolds p codes
+      prefix-go : (p : Prefix) (codes : List ℕ) → choose (eqb (kindOf p) 1) (ltb 0 (length codes)) (beginsBy satisfiesOne (listsOf p) codes) ≡ prefixHolds p codes
       unfolding prefixHolds
       prefix-go free codes = refl
       prefix-go present [] = refl

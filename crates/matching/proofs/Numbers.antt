@@ -6,7 +6,8 @@ use mathlib.Core.Option.{Option, none, some}
 use native.Mathlib.Omega.{arith}
 use native.Mathlib.Nat.{mod-lt, div-add-mod'}
 use Rattle.format.specs.Format.{Any}
-use Rattle.querygrammar.specs.Query.{Item, keyItem, rangeItem, Base, ValidItem}
+use Rattle.querygrammar.specs.Spelling.{Item, keyItem, rangeItem, nullItem}
+use Rattle.querygrammar.specs.Query.{Base, ValidItem}
 use Rattle.queryitem.specs.Numbers.{lowest, highest, turnOf, remainder as turn}
 use Rattle.matching.specs.Meets.{baseOf, fillOf, rotationOf, Agrees, Satisfies, satisfies}
 use Rattle.matching.specs.Inner.{fitsNumbers}
@@ -46,7 +47,7 @@ parts code z =
 remainder : (code b f r : ℕ) → code ≡ b * 96 + f * 16 + r + 1 → r ≤ 15 → code % 16 ≡ (r + 1) % 16
 remainder code b f r e h = omega arith
 
--- KEYS AND RANGES
+-- AN ITEM AND A CODE
 
 abbrev Asks : Item → ℕ → Type 0
 Asks item code = Lies (lowest item) (highest item) (turn item) code
@@ -97,6 +98,7 @@ module _ (code b f r : ℕ) (p : Parts code b f r) where
       let l : from ≤ 0x100 + b = omega (arith, p .sum, p .few, p .least, v .0 .0, a .0) in
       let h : 0x100 + b ≤ to = omega (arith, p .sum, p .few, p .least, v .1 .0, a .1 .0) in
       (z, (rw (p .base) at l, rw (p .base) at h))
+  asks-to nullItem v z a = omega (arith, a .1 .0)
 
   asks-from : (item : Item) → ValidItem item → Satisfies item code → Asks item code
   asks-from (keyItem base fill rotation) v s =
@@ -106,18 +108,21 @@ module _ (code b f r : ℕ) (p : Parts code b f r) where
       let l : from ≤ 0x100 + b = rw (← p .base) at (s .1 .0) in
       let h : 0x100 + b ≤ to = rw (← p .base) at (s .1 .1) in
       (omega (arith, p .sum, p .few, p .least, v .0 .0), (omega (arith, p .sum, p .few, p .least, v .1 .0), inl refl))
+  asks-from nullItem v s = (omega arith, (omega arith, inl refl))
 
--- the lowest code is 1 at least
-lowest-some : (item : Item) → 1 ≤ lowest item
-lowest-some (keyItem base none rotation) = omega arith
-lowest-some (keyItem base (some fill) rotation) = omega arith
-lowest-some (rangeItem from to) = omega arith
+-- code 0 lies below every key and every range
+null-means : (item : Item) → Asks item 0 ↔ Satisfies item 0
+null-means (keyItem base none rotation) = (λ a. absurd (omega (arith, a .0)), λ s. absurd (s .0 refl))
+null-means (keyItem base (some fill) rotation) = (λ a. absurd (omega (arith, a .0)), λ s. absurd (s .0 refl))
+null-means (rangeItem from to) = (λ a. absurd (omega (arith, a .0)), λ s. absurd (s .0 refl))
+null-means nullItem = (λ a. refl, λ s. (omega arith, (omega arith, inl refl)))
 
 pub item-means : (item : Item) (code : ℕ) → ValidItem item → Asks item code ↔ Satisfies item code
-item-means item code v = (
-  λ a. let z : code ≡ 0 → ⊥ = λ e. omega (arith, lowest-some item, a .0) in asks-to code _ _ _ (parts code z) item v z a,
-  λ s. asks-from code _ _ _ (parts code (s .0)) item v s,
-)
+item-means item zero v = null-means item
+item-means item (suc c) v =
+    let z : suc c ≡ 0 → ⊥ = λ e. omega arith in
+    let p = parts (suc c) z in
+    (asks-to (suc c) _ _ _ p item v z, asks-from (suc c) _ _ _ p item v)
 
 pub fits-item : (item : Item) (code : ℕ) → ValidItem item → fitsNumbers (lowest item) (highest item) (turn item) code ≡ satisfies item code
 fits-item item code v =

@@ -3,7 +3,7 @@ use Prim.Native.Nat.{ℕ, zero, suc, _+_, _-_, _*_, _%_, _≤_, _<_}
 use mathlib.Core.Path.{_≡_, refl, sym, ap, _∙_}
 use mathlib.Core.List.{List}
 use mathlib.Core.Bool.{Bool, true, false, not, _&&_, _||_}
-use lib.Dec.{leb, eqb}
+use lib.Dec.{leb}
 use native.Mathlib.Omega.{arith}
 use borrow.Author.Tests.{le-leb, lt-leb, eq-eqb, ne-eqb, not-true, not-false}
 use Rattle.grammar.specs.Sign.{Spatial}
@@ -81,7 +81,7 @@ module _ (words : List ℕ) (code : ℕ) where
 
 -- A ROW AND A CODE
 
-pub or-false : (t : Bool) → t || false ≡ t
+or-false : (t : Bool) → t || false ≡ t
 or-false true = refl
 or-false false = refl
 

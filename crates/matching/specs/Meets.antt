@@ -1,8 +1,8 @@
--- Document 01, "A query": when a sign meets a query, and the verdict with its witnesses.
+-- Document 01, "A query", and document 02, Q-9: when a sign meets a query, and the verdict with its witnesses.
 use Prim.Native.Nat.{ℕ, zero, suc, _+_, _/_, _%_, _≤_}
 use mathlib.Core.Path.{_≡_}
 use mathlib.Core.List.{List, [], _∷_, map}
-use mathlib.Core.Bool.{Bool, true, false, not, _&&_}
+use mathlib.Core.Bool.{Bool, true, false, not, _&&_, _||_}
 use mathlib.Core.Logic.{_⊎_}
 use mathlib.Core.Option.{Option, none, some}
 use lib.Dec.{leb, eqb}
@@ -10,7 +10,8 @@ use Rattle.format.specs.Format.{choose}
 use Rattle.charset.specs.Tokens.{partsOf}
 use Rattle.grammar.specs.Sign.{Spatial, Meaning}
 use Rattle.token.specs.Padded.{padded, zeros}
-use Rattle.querygrammar.specs.Query.{Item, keyItem, rangeItem, Prefix, free, present, begins, Sought, Query}
+use Rattle.querygrammar.specs.Spelling.{Item, keyItem, rangeItem, nullItem}
+use Rattle.querygrammar.specs.Query.{Prefix, free, present, begins, Sought, Query}
 use Rattle.matching.specs.declared.Verdict.{Verdict}
 
 -- AN ITEM AND A SYMBOL
@@ -30,29 +31,35 @@ abbrev pub Agrees : Option ℕ → ℕ → Type 0
 Agrees none digit = Unit
 Agrees (some given) digit = digit ≡ given
 
--- the symbol fits the key, or its base lies in the range, ends included
-abbrev pub Fits : Item → ℕ → Type 0
-Fits (keyItem base fill rotation) code = (baseOf code ≡ base) × (Agrees fill (fillOf code) × Agrees rotation (rotationOf code))
-Fits (rangeItem from to) code = (from ≤ baseOf code) × (baseOf code ≤ to)
-
--- null, which is code 0, satisfies no item
+-- the symbol fits the key, or its base lies in the range, ends included; null, which is code 0, satisfies the null item alone
 abbrev pub Satisfies : Item → ℕ → Type 0
-Satisfies item code = (code ≡ 0 → ⊥) × Fits item code
+Satisfies (keyItem base fill rotation) code = (code ≡ 0 → ⊥) × ((baseOf code ≡ base) × (Agrees fill (fillOf code) × Agrees rotation (rotationOf code)))
+Satisfies (rangeItem from to) code = (code ≡ 0 → ⊥) × ((from ≤ baseOf code) × (baseOf code ≤ to))
+Satisfies nullItem code = code ≡ 0
+
+-- P holds of some element
+abbrev pub Some : {A : Type 0} → (A → Type 0) → List A → Type 0
+Some P [] = ⊥
+Some P (a ∷ l) = P a ⊎ Some P l
+
+-- an item with alternatives is satisfied if one of them is
+abbrev pub SatisfiesOne : List Item → ℕ → Type 0
+SatisfiesOne l code = Some (λ item. Satisfies item code) l
 
 -- THE CONDITIONS
 
 -- the first codes satisfy the items one by one; there may be more codes
-abbrev pub Begins : List Item → List ℕ → Type 0
+abbrev pub Begins : List (List Item) → List ℕ → Type 0
 Begins [] codes = Unit
-Begins (item ∷ items) [] = ⊥
-Begins (item ∷ items) (code ∷ codes) = Satisfies item code × Begins items codes
+Begins (l ∷ lists) [] = ⊥
+Begins (l ∷ lists) (code ∷ codes) = SatisfiesOne l code × Begins lists codes
 
 -- nothing is asked of the prefix, there is one, or it begins with the items
 abbrev pub PrefixHolds : Prefix → List ℕ → Type 0
 PrefixHolds free codes = Unit
 PrefixHolds present [] = ⊥
 PrefixHolds present (code ∷ codes) = Unit
-PrefixHolds (begins items) codes = Begins items codes
+PrefixHolds (begins lists) codes = Begins lists codes
 
 -- two numbers differ by at most the variance
 abbrev pub Within : ℕ → ℕ → ℕ → Type 0
@@ -64,13 +71,9 @@ Near variance none symbol = Unit
 Near variance (some p) symbol = Within variance (p .0) (symbol .x) × Within variance (p .1) (symbol .y)
 
 abbrev pub Serves : ℕ → Sought → Spatial → Type 0
-Serves variance sought symbol = Satisfies (sought .item) (symbol .code) × Near variance (sought .coordinate) symbol
+Serves variance sought symbol = SatisfiesOne (sought .alternatives) (symbol .code) × Near variance (sought .coordinate) symbol
 
--- P holds of some element; and of element n, counted from 0, if there is one
-abbrev pub Some : {A : Type 0} → (A → Type 0) → List A → Type 0
-Some P [] = ⊥
-Some P (a ∷ l) = P a ⊎ Some P l
-
+-- P holds of element n, counted from 0, if there is one
 abbrev pub Nth : {A : Type 0} → (A → Type 0) → ℕ → List A → Type 0
 Nth P n [] = Unit
 Nth P zero (a ∷ l) = P a
@@ -91,12 +94,14 @@ abbrev pub agrees : Option ℕ → ℕ → Bool
 agrees none digit = true
 agrees (some given) digit = eqb digit given
 
-abbrev pub fits : Item → ℕ → Bool
-fits (keyItem base fill rotation) code = eqb (baseOf code) base && (agrees fill (fillOf code) && agrees rotation (rotationOf code))
-fits (rangeItem from to) code = leb from (baseOf code) && leb (baseOf code) to
-
 unfoldable pub satisfies : Item → ℕ → Bool
-satisfies item code = not (eqb code 0) && fits item code
+satisfies (keyItem base fill rotation) code = not (eqb code 0) && (eqb (baseOf code) base && (agrees fill (fillOf code) && agrees rotation (rotationOf code)))
+satisfies (rangeItem from to) code = not (eqb code 0) && (leb from (baseOf code) && leb (baseOf code) to)
+satisfies nullItem code = eqb code 0
+
+unfoldable pub satisfiesOne : List Item → ℕ → Bool
+satisfiesOne [] code = false
+satisfiesOne (item ∷ l) code = satisfies item code || satisfiesOne l code
 
 -- over any test of an item and a code
 abbrev pub beginsBy : {A : Type 0} → (A → ℕ → Bool) → List A → List ℕ → Bool
@@ -108,7 +113,7 @@ unfoldable pub prefixHolds : Prefix → List ℕ → Bool
 prefixHolds free codes = true
 prefixHolds present [] = false
 prefixHolds present (code ∷ codes) = true
-prefixHolds (begins items) codes = beginsBy satisfies items codes
+prefixHolds (begins lists) codes = beginsBy satisfiesOne lists codes
 
 abbrev pub within : ℕ → ℕ → ℕ → Bool
 within variance a b = leb a (b + variance) && leb b (a + variance)
@@ -118,7 +123,7 @@ near variance none symbol = true
 near variance (some p) symbol = within variance (p .0) (symbol .x) && within variance (p .1) (symbol .y)
 
 unfoldable pub serves : ℕ → Sought → Spatial → Bool
-serves variance sought symbol = satisfies (sought .item) (symbol .code) && near variance (sought .coordinate) symbol
+serves variance sought symbol = satisfiesOne (sought .alternatives) (symbol .code) && near variance (sought .coordinate) symbol
 
 -- the number of the first that passes, where the first of all has number k; 0 if none does
 abbrev pub firstFrom : {A : Type 0} → ℕ → (A → Bool) → List A → ℕ

@@ -1,62 +1,117 @@
 -- A query that was accepted: its items are valid and few enough, so that its words have room.
 use Prim.Native.Nat.{ℕ, _≤_}
 use mathlib.Core.Path.{_≡_}
-use mathlib.Core.List.{List, [], _∷_, map}
-use mathlib.Core.Logic.{_⊎_, inl, inr}
+use mathlib.Core.List.{List, map}
+use mathlib.Core.Bool.{Bool, true, false, _&&_, and-eq-true-iff}
+use mathlib.Core.Logic.{inl, inr}
 use mathlib.Core.Option.{Option, none, some}
+use lib.Dec.{leb}
 use lib.ListN.{length}
-use Rattle.format.specs.Format.{All, Any}
+use borrow.Author.Tests.{leb-true}
+use Rattle.format.specs.Format.{Format, All, Any, every}
+use Rattle.format.proofs.Lists.{all-map, all-weaker, every-all}
+use Rattle.charset.specs.declared.Charset.the-variants.{Fsw, Swu}
+use Rattle.grammar.specs.Sign.{Number}
+use Rattle.token.specs.Refusal.{prefixLong, signboxLong, alternativesLong, rangeReversed}
 use Rattle.token.specs.Result.{done, ofOutcome}
-use Rattle.token.proofs.Checks.{andThen-done}
-use Rattle.token.proofs.Results.{outcome-done}
-use Rattle.querygrammar.specs.Query.{orAny, item, signboxItem, head, query, ItemText, SoughtText, HeadText, QueryText, Query, openOf, itemOf, soughtOf, prefixOf, meaning, itemsOf, ValidItem, ValidSought, ValidQuery}
-use Rattle.querygrammar.specs.QueryLaws.{readQuery}
+use Rattle.token.proofs.Checks.{refusal-done, check-done, andThen-done}
+use Rattle.token.proofs.Results.{same-done, outcome-done}
+use Rattle.querygrammar.specs.declared.Edition.{Edition}
+use Rattle.querygrammar.specs.declared.Edition.the-variants.{First, Second}
+use Rattle.querygrammar.specs.Spelling.{Item, Spelling, spelling}
+use Rattle.querygrammar.specs.Query.{others, list, ListText, SoughtText, HeadText, coordinate, prefixList, signboxList, head, query, Query, alternativesOf, soughtOf, prefixOf, meaning, listsOf, soughtLists, ValidItem, ValidSought, ValidQuery}
+use Rattle.querygrammar.specs.QueryLaws.{Text, readQuery}
 use Rattle.querygrammar.proofs.QueryLaws.{query-laws}
-use Rattle.queryitem.proofs.Rows.{words-room}
-use Rattle.querypart.specs.Ranges.{firstReversed}
-use Rattle.query.specs.Reading.{spotsOf, limited, queryOf}
+use Rattle.queryitem.specs.Pieces.{itemOf}
+use Rattle.queryitem.proofs.Rows.{Few, words-room}
+use Rattle.querypart.specs.Spots.{firstReversed}
+use Rattle.querypart.specs.Inner.{few}
+use Rattle.querypart.proofs.Valid.{item-valid}
+use Rattle.query.specs.Reading.{spotsOf, inOrder, limited, queryOf}
 use Rattle.query.specs.ReadingLaws.{Accepted}
-use Rattle.query.proofs.Putting.{limited-passed}
 
-open-valid : (top : ℕ) (d : ℕ ⊎ ℕ) → orAny top .Valid d → Any (λ n. n ≤ top) (openOf d)
-open-valid top (inl d) ok = ok .1
-open-valid top (inr u) ok = tt
+-- WHAT PASSED ALL THE LIMITS
 
-item-valid : (i : ItemText) → item .Valid i → ValidItem (itemOf i)
-item-valid (inl k) ok = (ok .0, (open-valid 5 (k .1 .0) (ok .1 .0), open-valid 15 (k .1 .1) (ok .1 .1)))
-item-valid (inr r) ok = ok
+pub record Passed (p q : Query) : Type 0 where
+  pub same : p ≡ q
+  pub prefix-most : length (listsOf (p .prefix)) ≤ 32
+  pub items-most : length (p .items) ≤ 32
+  pub prefix-few : every few (listsOf (p .prefix)) ≡ true
+  pub items-few : every few (soughtLists p) ≡ true
 
-items-valid : (l : List ItemText) → All (item .Valid) l → All ValidItem (map itemOf l)
-items-valid [] ok = tt
-items-valid (i ∷ l) ok = (item-valid i (ok .0), items-valid l (ok .1))
+order-done : (o : Option ℕ) (p q : Query) → inOrder o p ≡ done q → p ≡ q
+order-done none p q e = same-done e
+order-done (some at) p q e = refusal-done rangeReversed at e
 
-sought-valid : (s : SoughtText) → signboxItem .Valid s → ValidSought (soughtOf s)
-sought-valid (i, none) ok = (item-valid i (ok .0), tt)
-sought-valid (i, some p) ok = (item-valid i (ok .0), ok .1)
+pub limited-passed : (p q : Query) (o : Option ℕ) → limited p o ≡ done q → Passed p q
+limited-passed p q o e =
+    let a = check-done (leb (length (listsOf (p .prefix))) 32) prefixLong 0 _ e in
+    let b = check-done (leb (length (p .items)) 32) signboxLong 0 _ (a .1) in
+    let c = check-done (every few (listsOf (p .prefix)) && every few (soughtLists p)) alternativesLong 0 _ (b .1) in
+    let f = and-eq-true-iff (every few (listsOf (p .prefix))) (every few (soughtLists p)) .0 (c .0) in
+    record {
+      same = order-done o p q (c .1);
+      prefix-most = leb-true _ 32 (a .0);
+      items-most = leb-true _ 32 (b .0);
+      prefix-few = f .0;
+      items-few = f .1;
+    }
 
-all-valid : (l : List SoughtText) → All (signboxItem .Valid) l → All ValidSought (map soughtOf l)
-all-valid [] ok = tt
-all-valid (s ∷ l) ok = (sought-valid s (ok .0), all-valid l (ok .1))
+-- VALID ITEMS
 
-prefix-valid : (h : Option HeadText) → Any (head .Valid) h → All ValidItem (itemsOf (prefixOf h))
-prefix-valid none ok = tt
-prefix-valid (some (inl t)) ok = tt
-prefix-valid (some (inr p)) ok = (item-valid (p .0 .0) (ok .0 .0), items-valid (p .0 .1) (ok .0 .1))
+all-mapped : {A B : Type 0} (P : A → Type 0) (Q : B → Type 0) (f : A → B) → ((a : A) → P a → Q (f a)) → (l : List A) → All P l → All Q (map f l)
+all-mapped P Q f k l ok = all-map Q f l (all-weaker P (λ a. Q (f a)) k l ok)
 
-query-valid : (t : QueryText) → query .Valid t → ValidQuery (meaning t)
-query-valid t ok = record { prefix = prefix-valid (t .0) (ok .0); items = all-valid (t .1 .0) (ok .1 .0) }
+others-valid : {A : Type 0} (f : Format A) (joins : Bool) (l : List A) → others joins f .Valid l → All (f .Valid) l
+others-valid f false l ok = rw ok tt
+others-valid f true l ok = ok
 
-pub query-accepted : (text : List ℕ) (q : Query) → queryOf text ≡ done q → Accepted q
+point-valid : (e : Edition) (p : ℕ × ℕ) → coordinate (spelling e) .Valid p → Number (p .0) × Number (p .1)
+point-valid First p ok = ok
+point-valid (Second Fsw) p ok = ok
+point-valid (Second Swu) p ok = ok
+
+module _ (e : Edition) where
+  abbrev s : Spelling
+  s = spelling e
+
+  list-valid : (boxed : Bool) (v : ListText (s .Says)) → list (s .joins) (itemOf s boxed) .Valid v → All ValidItem (alternativesOf (s .means) v)
+  list-valid boxed v ok =
+      let f = itemOf s boxed in
+      (item-valid e boxed (v .0) (ok .0), all-mapped (f .Valid) ValidItem (s .means) (item-valid e boxed) (v .1) (others-valid f (s .joins) (v .1) (ok .1)))
+
+  sought-valid : (v : SoughtText (s .Says)) → signboxList s .Valid v → ValidSought (soughtOf (s .means) v)
+  sought-valid (l, none) ok = (list-valid true l (ok .0), tt)
+  sought-valid (l, some p) ok = (list-valid true l (ok .0), point-valid e p (ok .1))
+
+  prefix-valid : (h : Option (HeadText (s .Says))) → Any (head s .Valid) h → All (All ValidItem) (listsOf (prefixOf (s .means) h))
+  prefix-valid none ok = tt
+  prefix-valid (some (inl t)) ok = tt
+  prefix-valid (some (inr p)) ok =
+      (list-valid false (p .0 .0) (ok .0 .0), all-mapped (prefixList s .Valid) (All ValidItem) (alternativesOf (s .means)) (list-valid false) (p .0 .1) (ok .0 .1))
+
+  query-valid : (t : Text e) → query s .Valid t → ValidQuery (meaning (s .means) t)
+  query-valid t ok = record { prefix = prefix-valid (t .0) (ok .0); items = all-mapped (signboxList s .Valid) ValidSought (soughtOf (s .means)) sought-valid (t .1 .0) (ok .1 .0) }
+
+-- ALL OF IT
+
+few-all : (l : List (List Item)) → every few l ≡ true → Few l
+few-all l e = all-weaker (λ a. few a ≡ true) (λ a. length a ≤ 8) (λ a k. leb-true (length a) 8 k) l (every-all few l e)
+
+pub query-accepted : (e : Edition) (text : List ℕ) (q : Query) → queryOf e text ≡ done q → Accepted q
 unfolding queryOf
-query-accepted text q e =
-    let d = andThen-done (ofOutcome (length text) (readQuery text)) (λ t. limited (meaning t) (firstReversed (spotsOf t))) e in
+query-accepted e text q z =
+    let d = andThen-done (ofOutcome (length text) (readQuery e text)) _ z in
     let t = d .0 in
-    let p = limited-passed (meaning t) q (firstReversed (spotsOf t)) (d .1 .1) in
-    let ok = query-laws .writes text t (outcome-done (length text) (readQuery text) t (d .1 .0)) .0 in
+    let m = meaning (spelling e .means) t in
+    let p = limited-passed m q (firstReversed (spotsOf (spelling e) t)) (d .1 .1) in
+    let a = few-all (listsOf (m .prefix)) (p .prefix-few) in
+    let b = few-all (soughtLists m) (p .items-few) in
     rw (← p .same)
     (record {
-      valid = query-valid t ok;
+      valid = query-valid e t (query-laws e .writes text t (outcome-done (length text) (readQuery e text) t (d .1 .0)) .0);
       prefix-most = p .prefix-most;
       items-most = p .items-most;
-      room = words-room (meaning t) (p .prefix-most) (p .items-most);
+      alternatives-most = (a, b);
+      room = words-room m (p .prefix-most) (p .items-most) a b;
     })

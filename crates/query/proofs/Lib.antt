@@ -1,7 +1,9 @@
+pub mod Accepted
 pub mod Putting
 pub mod Tails
 pub mod Openings
 pub mod Texts
+pub mod Prefixes
 pub mod Answers
-pub mod Accepted
 pub mod ReadingLaws
+pub mod Editions

@@ -9,7 +9,7 @@ use lib.Dec.{ltb}
 use lib.ListN.{length, take, drop, length-drop}
 use native.Mathlib.Omega.{arith}
 use borrow.Author.Tests.{ltb-true}
-use Rattle.format.specs.Format.{Answer, value, other, wrong, short, choose, orElse}
+use Rattle.format.specs.Format.{Answer, Format, value, other, wrong, short, choose, orElse}
 use Rattle.format.specs.Located.{wrongAt, shortHere, locate, andThen, onFound}
 use Rattle.format.proofs.At.{delimited-got, cut-reads, either-begun, either-passed}
 use Rattle.format.proofs.Ends.{optional-there, optional-none, optional-open, optional-over}
@@ -20,26 +20,35 @@ use Rattle.charset.proofs.FixedByte.{after-at, after-begun, byte-wrong}
 use Rattle.token.specs.declared.reading.Token.{Token}
 use Rattle.token.specs.declared.reading.Token.the-variants.{Value, Wrong, Short}
 use Rattle.token.specs.Token.{tokenAt}
-use Rattle.querygrammar.specs.Query.{prefixItems as prefixFormat, head, afterQ, query}
+use Rattle.querygrammar.specs.declared.Edition.{Edition}
+use Rattle.querygrammar.specs.Spelling.{spelling}
+use Rattle.querygrammar.specs.Query.{ListText, HeadText, prefixLists, head, afterQ, query}
+use Rattle.querygrammar.specs.QueryLaws.{Text}
 use Rattle.queryitem.proofs.Chains.{byte-there, wrong-token, short-token}
 use Rattle.query.specs.Inner.{Asks, OpensWith, Prefixed}
 
 -- THE Q
 
-module _ (s : List ℕ) (t : Token) (e : t ≡ tokenAt (byte 81) s 0) where
-  q-at : locate query s 0 ≡ andThen (locate (byte 81) s 0) λ a i. locate afterQ s i
-  q-at = after-at 81 afterQ s 0
+module _ (e : Edition) (s : List ℕ) (t : Token) (told : t ≡ tokenAt (byte 81) s 0) where
+  abbrev begins : Format (Text e)
+  begins = query (spelling e)
 
-  pub asks-it : (a : ℕ) → t ≡ Value a → Asks s
+  abbrev goes : Format (Text e)
+  goes = afterQ (spelling e)
+
+  q-at : locate begins s 0 ≡ andThen (locate (byte 81) s 0) λ a i. locate goes s i
+  q-at = after-at 81 goes s 0
+
+  pub asks-it : (a : ℕ) → t ≡ Value a → Asks e s
   asks-it a w =
-      let l = byte-there 81 s 0 a t e w in
-      record { is = q-at ∙ ap (λ l. andThen l λ a i. locate afterQ s i) l; room = delimited-got 1 (byte 81) (byte-delimited 81) s 0 a 1 l .room }
+      let l = byte-there 81 s 0 a t told w in
+      record { is = q-at ∙ ap (λ l. andThen l λ a i. locate goes s i) l; room = delimited-got 1 (byte 81) (byte-delimited 81) s 0 a 1 l .room }
 
-  pub q-wrong : (p : ℕ) → t ≡ Wrong p → locate query s 0 ≡ wrongAt p
-  q-wrong p w = q-at ∙ ap (λ l. andThen l λ a i. locate afterQ s i) (wrong-token (byte 81) s 0 p t e w)
+  pub q-wrong : (p : ℕ) → t ≡ Wrong p → locate begins s 0 ≡ wrongAt p
+  q-wrong p w = q-at ∙ ap (λ l. andThen l λ a i. locate goes s i) (wrong-token (byte 81) s 0 p t told w)
 
-  pub q-short : t ≡ Short → locate query s 0 ≡ shortHere
-  q-short w = q-at ∙ ap (λ l. andThen l λ a i. locate afterQ s i) (short-token (byte 81) s 0 t e w)
+  pub q-short : t ≡ Short → locate begins s 0 ≡ shortHere
+  q-short w = q-at ∙ ap (λ l. andThen l λ a i. locate goes s i) (short-token (byte 81) s 0 t told w)
 
 -- WHAT FOLLOWS IT
 
@@ -65,39 +74,45 @@ never-other other n e = n refl
 never-other (wrong rest) n e = let z : _≡_ {A = ℕ} 0 1 = cc in omega arith
 never-other short n e = let z : _≡_ {A = ℕ} 0 1 = cc in omega arith
 
-module _ (s : List ℕ) (h : 1 ≤ length s) where
-  opens-end : length s ≤ 1 → OpensWith s 0
-  opens-end k = record { is = optional-over head s 1 (omega arith) refl; most = omega arith }
+module _ (e : Edition) (s : List ℕ) (h : 1 ≤ length s) where
+  abbrev opening : Format (HeadText (spelling e .Says))
+  opening = head (spelling e)
 
-  pub opens-short : (b : ℕ) (t : Token) → t ≡ tokenAt (byte b) s 1 → t ≡ Short → OpensWith s 0
-  opens-short b t e q = opens-end (byte-short b s 1 (short-token (byte b) s 1 t e q))
+  abbrev prefixFormat : Format ((ListText (spelling e .Says) × List (ListText (spelling e .Says))) × ℕ)
+  prefixFormat = prefixLists (spelling e)
 
-  pub opens-t : (a : ℕ) (t : Token) → t ≡ tokenAt (byte 84) s 1 → t ≡ Value a → OpensWith s 1
-  opens-t a t e q =
-      let l = byte-there 84 s 1 a t e q in
+  opens-end : length s ≤ 1 → OpensWith e s 0
+  opens-end k = record { is = optional-over opening s 1 (omega arith) refl; most = omega arith }
+
+  pub opens-short : (b : ℕ) (t : Token) → t ≡ tokenAt (byte b) s 1 → t ≡ Short → OpensWith e s 0
+  opens-short b t x q = opens-end (byte-short b s 1 (short-token (byte b) s 1 t x q))
+
+  pub opens-t : (a : ℕ) (t : Token) → t ≡ tokenAt (byte 84) s 1 → t ≡ Value a → OpensWith e s 1
+  opens-t a t x q =
+      let l = byte-there 84 s 1 a t x q in
       let g = delimited-got 1 (byte 84) (byte-delimited 84) s 1 a 2 l in
       record {
         is = (
           a,
-          optional-there head s 1 (inl a) 2
+          optional-there opening s 1 (inl a) 2
               (either-begun (byte 84) (after 65 prefixFormat) s 1 (λ z. value-other (sym (g .reads) ∙ z)) ∙ ap (onFound inl) l),
           g .room,
         );
         most = omega arith;
       }
 
-  module _ (p : ℕ) (t : Token) (e : t ≡ tokenAt (byte 84) s 1) (q : t ≡ Wrong p) where
+  module _ (p : ℕ) (t : Token) (told : t ≡ tokenAt (byte 84) s 1) (q : t ≡ Wrong p) where
     no-t : byte 84 .read (drop 1 s) ≡ other
-    no-t = byte-wrong 84 s 1 p (wrong-token (byte 84) s 1 p t e q) .1
+    no-t = byte-wrong 84 s 1 p (wrong-token (byte 84) s 1 p t told q) .1
 
-    pub opens-a : (a : ℕ) (u : Token) → u ≡ tokenAt (byte 65) s 1 → u ≡ Value a → OpensWith s 2
+    pub opens-a : (a : ℕ) (u : Token) → u ≡ tokenAt (byte 65) s 1 → u ≡ Value a → OpensWith e s 2
     opens-a a u f w =
         let l = byte-there 65 s 1 a u f w in
         let g = delimited-got 1 (byte 65) (byte-delimited 65) s 1 a 2 l in
         let n = after-begun 65 prefixFormat (drop 1 s) a (drop 2 s) (g .reads) in
         record {
           is = (
-            optional-open head s 1 (let r = g .room in omega arith)
+            optional-open opening s 1 (let r = g .room in omega arith)
                 (λ z. never-other (after 65 prefixFormat .read (drop 1 s)) n (sym (ap (λ r. orElse r (after 65 prefixFormat .read (drop 1 s))) no-t) ∙ z))
                 ∙ ap (onFound some) (either-passed (byte 84) (after 65 prefixFormat) s 1 no-t ∙ ap (onFound inr) (after-at 65 prefixFormat s 1 ∙ ap (λ l. andThen l λ a i. locate prefixFormat s i) l)),
             g .room,
@@ -105,10 +120,10 @@ module _ (s : List ℕ) (h : 1 ≤ length s) where
           most = omega arith;
         }
 
-    pub opens-bare : (r : ℕ) (u : Token) → u ≡ tokenAt (byte 65) s 1 → u ≡ Wrong r → OpensWith s 0
+    pub opens-bare : (r : ℕ) (u : Token) → u ≡ tokenAt (byte 65) s 1 → u ≡ Wrong r → OpensWith e s 0
     opens-bare r u f w =
         let o = after-other 65 prefixFormat (drop 1 s) (byte-wrong 65 s 1 r (wrong-token (byte 65) s 1 r u f w) .1) in
-        record { is = optional-none head s 1 h (ap (λ r. orElse r (after 65 prefixFormat .read (drop 1 s))) no-t ∙ ap (orElse other) o); most = omega arith }
+        record { is = optional-none opening s 1 h (ap (λ r. orElse r (after 65 prefixFormat .read (drop 1 s))) no-t ∙ ap (orElse other) o); most = omega arith }
 
-pub prefixed-it : (s : List ℕ) (kind : ℕ) → Asks s → OpensWith s kind → kind ≡ 2 → Prefixed s
-prefixed-it s kind asks k e = record { asks = asks; opened = rw e at (k .is) }
+pub prefixed-it : (e : Edition) (s : List ℕ) (kind : ℕ) → Asks e s → OpensWith e s kind → kind ≡ 2 → Prefixed e s
+prefixed-it e s kind asks k z = record { asks = asks; opened = rw z at (k .is) }

@@ -1,6 +1,7 @@
-// Queries in FSW form: reading.
+// Queries: reading, in every edition.
 ghost use mathlib.Core.Path.{_≡_};
 ghost use Rattle.query.specs.Reading.{queryOf, readingOf};
+use querygrammar::Edition;
 use queryitem::words::WORDS;
 use token::refusal::DONE;
 
@@ -13,12 +14,12 @@ pub struct Reading {
     pub words: [u16; WORDS],
 }
 
-// Reads a query: refused as 1 or 2, then 3, then 4, then 5.
-pub fn read(text: &[u8]) -> Reading
-    ensures { λ r. ⌜ r ≡ readingOf (queryOf (now (text .entry))) ⌝ }
+// Reads a query of an edition: refused as 1 or 2, then 3, then 4, then 22, then 5.
+pub fn read(edition: Edition, text: &[u8]) -> Reading
+    ensures { λ r. ⌜ r ≡ readingOf (queryOf edition (now (text .entry))) ⌝ }
 {
     let mut words = [0u16; WORDS];
-    let h = words::read_into(text, &mut words);
+    let h = words::read_into(edition, text, &mut words);
     let number = h.number;
     if number != DONE {
         return Reading {

@@ -1,23 +1,25 @@
 // Reading a query into lent words: every item is read and counted, and the first 32 of the prefix and of the signbox are kept.
 ghost use mathlib.Core.Path.{_≡_};
-ghost use Prim.Native.Nat.{_+_, _≤_};
+ghost use Prim.Native.Nat.{_≤_};
+ghost use mathlib.Core.Bool.{_||_};
 ghost use lib.ListN.{length};
 ghost use Rattle.token.specs.Padded.{zeros};
 ghost use Rattle.queryitem.specs.Words.{wordCount};
-ghost use Rattle.query.specs.Inner.{afterRows, LimitedInto, TailIn, Asks, OpensWith, Prefixed, PrefixIn, ReadInto};
+ghost use Rattle.query.specs.Inner.{LimitedInto, TailIn, Asks, OpensWith, Opens, Prefixed, PrefixIn, ReadInto};
+use querygrammar::Edition;
 use queryitem::words::BEGINS;
 use queryitem::words::FIRST_ROW;
 use queryitem::words::FREE;
 use queryitem::words::MOST_ITEMS;
 use queryitem::words::PRESENT;
-use queryitem::words::ROW;
 use queryitem::words::WORDS;
+use querypart::alternatives::or_earlier;
 use querypart::items::Count;
 use querypart::items::counted;
 use querypart::items::items_into;
 use querypart::items::no_count;
-use querypart::items::or_earlier;
 use token::reading::Token;
+use token::refusal::ALTERNATIVES_LONG;
 use token::refusal::DONE;
 use token::refusal::PREFIX_LONG;
 use token::refusal::RANGE_REVERSED;
@@ -37,16 +39,6 @@ fn answer(number: u8, place: usize) -> Head
     Head { number, place }
 }
 
-// The offset after the rows of the prefix items, of which the first MOST_ITEMS are kept.
-fn after_rows(count: usize) -> usize
-    ensures { λ r. ⌜ r ≡ afterRows count ⌝ }
-{
-    if MOST_ITEMS < count {
-        return FIRST_ROW + ROW * MOST_ITEMS;
-    }
-    FIRST_ROW + ROW * count
-}
-
 // The limits and the order of ranges are judged after the text. The first four words are put last.
 fn limited_into(
     words: &mut [u16; WORDS],
@@ -54,16 +46,20 @@ fn limited_into(
     before: usize,
     count: usize,
     variance: u16,
+    crowded: bool,
     reversed: usize,
 ) -> Head
     requires { ⌜ length (now words) ≡ wordCount ⌝ }
-    ensures { λ r. ⌜ LimitedInto kind before count variance reversed (now (words .entry)) r (now (words .exit)) ⌝ }
+    ensures { λ r. ⌜ LimitedInto kind before count variance crowded reversed (now (words .entry)) r (now (words .exit)) ⌝ }
 {
     if MOST_ITEMS < before {
         return answer(PREFIX_LONG, 0);
     }
     if MOST_ITEMS < count {
         return answer(SIGNBOX_LONG, 0);
+    }
+    if crowded {
+        return answer(ALTERNATIVES_LONG, 0);
     }
     if reversed != 0 {
         return answer(RANGE_REVERSED, reversed);
@@ -75,21 +71,22 @@ fn limited_into(
     answer(DONE, 0)
 }
 
-// The signbox items and the variance, up to the end of the text, after a prefix condition of a kind, with so many
-// items, of which the first that is reversed stands at an offset.
-fn tail_into(
-    s: &[u8],
-    at: usize,
-    kind: u16,
-    before: usize,
-    earlier: usize,
-    words: &mut [u16; WORDS],
-) -> Head
-    requires { ⌜ (1 ≤ at) × (at ≤ length (now s)) × (length (now words) ≡ wordCount) ⌝ }
-    ensures { λ r. ⌜ TailIn (now (s .entry)) at kind before earlier (now (words .entry)) r (now (words .exit)) ⌝ }
+// Whether one of two is.
+fn either(one: bool, other: bool) -> bool
+    ensures { λ r. ⌜ r ≡ one || other ⌝ }
 {
-    let from = after_rows(before);
-    let t = items_into(s, at, true, words, from);
+    if one {
+        return true;
+    }
+    other
+}
+
+// The signbox items and the variance, up to the end of the text, after a prefix condition of a kind whose items were counted.
+fn tail_into(s: &[u8], edition: Edition, kind: u16, before: Count, words: &mut [u16; WORDS]) -> Head
+    requires { ⌜ (1 ≤ before .place) × (before .place ≤ length (now s)) × (before .row ≤ 868) × (length (now words) ≡ wordCount) ⌝ }
+    ensures { λ r. ⌜ TailIn edition (now (s .entry)) kind before (now (words .entry)) r (now (words .exit)) ⌝ }
+{
+    let t = items_into(s, before.place, edition, true, words, before.row);
     let number = t.number;
     let place = t.place;
     if number != DONE {
@@ -97,8 +94,9 @@ fn tail_into(
     }
     match querypart::variance::variance_end(s, place) {
         Token::Value(v) => {
-            let reversed = or_earlier(earlier, t.reversed);
-            limited_into(words, kind, before, t.count, v, reversed)
+            let reversed = or_earlier(before.reversed, t.reversed);
+            let crowded = either(before.crowded, t.crowded);
+            limited_into(words, kind, before.count, t.count, v, crowded, reversed)
         }
         Token::Wrong(p) => answer(TEXT_WRONG, p),
         Token::Short => answer(TEXT_SHORT, s.len()),
@@ -108,7 +106,7 @@ fn tail_into(
 // What the text asks of the prefix, by what follows the Q: T, the A of a prefix, or anything else.
 fn opens_with(s: &[u8]) -> u16
     requires { ⌜ 1 ≤ length (now s) ⌝ }
-    ensures { λ r. ⌜ OpensWith (now (s .entry)) r ⌝ }
+    ensures { λ r. ⌜ Opens (now (s .entry)) r ⌝ }
 {
     match token::reading::byte_at(s, 1, b'T') {
         Token::Value(_) => PRESENT,
@@ -122,11 +120,11 @@ fn opens_with(s: &[u8]) -> u16
 }
 
 // The items of the prefix after their A, and the T.
-fn prefix_items_into(s: &[u8], words: &mut [u16; WORDS]) -> Count
-    requires { ⌜ Prefixed (now s) × (now words ≡ zeros wordCount) ⌝ }
-    ensures { λ r. ⌜ PrefixIn (now (s .entry)) 2 r (now (words .exit)) ⌝ }
+fn prefix_items_into(s: &[u8], edition: Edition, words: &mut [u16; WORDS]) -> Count
+    requires { ⌜ Prefixed edition (now s) × (now words ≡ zeros wordCount) ⌝ }
+    ensures { λ r. ⌜ PrefixIn edition (now (s .entry)) 2 r (now (words .exit)) ⌝ }
 {
-    let t = items_into(s, 2, false, words, FIRST_ROW);
+    let t = items_into(s, 2, edition, false, words, FIRST_ROW);
     let number = t.number;
     let place = t.place;
     let count = t.count;
@@ -135,53 +133,53 @@ fn prefix_items_into(s: &[u8], words: &mut [u16; WORDS]) -> Count
     }
     if count == 0 {
         if place < s.len() {
-            return no_count(TEXT_WRONG, place);
+            return no_count(TEXT_WRONG, place, FIRST_ROW);
         }
-        return no_count(TEXT_SHORT, s.len());
+        return no_count(TEXT_SHORT, s.len(), FIRST_ROW);
     }
     match token::reading::byte_at(s, place, b'T') {
-        Token::Value(_) => counted(place + 1, count, t.reversed),
-        Token::Wrong(p) => no_count(TEXT_WRONG, p),
-        Token::Short => no_count(TEXT_SHORT, s.len()),
+        Token::Value(_) => counted(place + 1, count, t.reversed, t.crowded, t.row),
+        Token::Wrong(p) => no_count(TEXT_WRONG, p, FIRST_ROW),
+        Token::Short => no_count(TEXT_SHORT, s.len(), FIRST_ROW),
     }
 }
 
 // What asks for a prefix, of a kind: nothing, T, or items.
-fn prefix_into(s: &[u8], kind: u16, words: &mut [u16; WORDS]) -> Count
-    requires { ⌜ Asks (now s) × (OpensWith (now s) kind) × (now words ≡ zeros wordCount) ⌝ }
-    ensures { λ r. ⌜ PrefixIn (now (s .entry)) kind r (now (words .exit)) ⌝ }
+fn prefix_into(s: &[u8], edition: Edition, kind: u16, words: &mut [u16; WORDS]) -> Count
+    requires { ⌜ Asks edition (now s) × (OpensWith edition (now s) kind) × (now words ≡ zeros wordCount) ⌝ }
+    ensures { λ r. ⌜ PrefixIn edition (now (s .entry)) kind r (now (words .exit)) ⌝ }
 {
     if kind == BEGINS {
-        return prefix_items_into(s, words);
+        return prefix_items_into(s, edition, words);
     }
     if kind == PRESENT {
-        return counted(2, 0, 0);
+        return counted(2, 0, 0, false, FIRST_ROW);
     }
-    counted(1, 0, 0)
+    counted(1, 0, 0, false, FIRST_ROW)
 }
 
 // What follows the Q.
-fn after_q_into(s: &[u8], words: &mut [u16; WORDS]) -> Head
-    requires { ⌜ Asks (now s) × (now words ≡ zeros wordCount) ⌝ }
-    ensures { λ r. ⌜ ReadInto (now (s .entry)) r (now (words .exit)) ⌝ }
+fn after_q_into(s: &[u8], edition: Edition, words: &mut [u16; WORDS]) -> Head
+    requires { ⌜ Asks edition (now s) × (now words ≡ zeros wordCount) ⌝ }
+    ensures { λ r. ⌜ ReadInto edition (now (s .entry)) r (now (words .exit)) ⌝ }
 {
     let kind = opens_with(s);
-    let t = prefix_into(s, kind, words);
+    let t = prefix_into(s, edition, kind, words);
     let number = t.number;
     let place = t.place;
     if number != DONE {
         return answer(number, place);
     }
-    tail_into(s, place, kind, t.count, t.reversed, words)
+    tail_into(s, edition, kind, t, words)
 }
 
 // Reads a query into words that are zeros.
-pub fn read_into(s: &[u8], words: &mut [u16; WORDS]) -> Head
+pub fn read_into(edition: Edition, s: &[u8], words: &mut [u16; WORDS]) -> Head
     requires { ⌜ now words ≡ zeros wordCount ⌝ }
-    ensures { λ r. ⌜ ReadInto (now (s .entry)) r (now (words .exit)) ⌝ }
+    ensures { λ r. ⌜ ReadInto edition (now (s .entry)) r (now (words .exit)) ⌝ }
 {
     match token::reading::byte_at(s, 0, b'Q') {
-        Token::Value(_) => after_q_into(s, words),
+        Token::Value(_) => after_q_into(s, edition, words),
         Token::Wrong(p) => answer(TEXT_WRONG, p),
         Token::Short => answer(TEXT_SHORT, s.len()),
     }

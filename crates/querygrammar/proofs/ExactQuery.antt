@@ -1,76 +1,72 @@
--- The query is exact, with a wrong number told at the byte where it goes wrong.
-use Prim.Native.Nat.{ℕ, _≤_}
-use mathlib.Core.List.{[]}
-use lib.ListN.{length, length-append}
-use native.Mathlib.Omega.{arith}
+-- The query is exact where its coordinates are: in SWU, and in FSW with a wrong number told at the byte where it goes wrong.
+use Prim.Native.Nat.{ℕ}
 use Rattle.format.specs.Format.{Format, optional, many}
 use Rattle.format.proofs.Exact.{Exact}
-use Rattle.format.proofs.ExactParts.{sequence-exact, optional-exact, either-exact}
+use Rattle.format.proofs.ExactParts.{sequence-exact, optional-exact}
 use Rattle.format.proofs.ExactMany.{many-exact}
-use Rattle.format.proofs.Delimited.{Delimited, solid}
-use Rattle.charset.specs.declared.Charset.the-variants.{Fsw}
-use Rattle.charset.specs.Bytes.{byte, digit, after}
-use Rattle.charset.proofs.Coding.{byte-exact, digit-exact}
-use Rattle.charset.proofs.Units.{after-exact}
-use Rattle.charset.proofs.Sets.{exactTokens, exact-lawful, exact}
+use Rattle.charset.specs.declared.Charset.the-variants.{Fsw, Swu}
+use Rattle.charset.specs.Bytes.{after}
+use Rattle.charset.specs.Tokens.{fswNumber}
+use Rattle.charset.proofs.Units.{after-delimited, after-exact}
+use Rattle.charset.proofs.Keys.{number-strict}
+use Rattle.charset.proofs.Sets.{exactTokens, exact}
 use Rattle.grammar.specs.Sign.{point}
-use Rattle.grammar.proofs.Sign.{point-fixed}
 use Rattle.grammar.proofs.ExactSign.{point-exact}
-use Rattle.querygrammar.specs.Query.{item, SoughtText, signboxItemWith, someItems, prefixItems, head, laterFigures, figures, variance, tailWith, QueryText, afterQWith, queryWith}
-use Rattle.querygrammar.proofs.Query.{item-strict, item-delimited}
-use Rattle.querygrammar.proofs.Follow.{exact-not, with-ready}
+use Rattle.querygrammar.specs.declared.Edition.the-variants.{Second}
+use Rattle.querygrammar.specs.Spelling.{queryNumber, Spelling, secondSwu}
+use Rattle.querygrammar.specs.Query.{variance, coordinate, bareList, signboxList, head, tail, afterQ, query}
+use Rattle.querygrammar.proofs.Items.{number-other, number-apart, pair-point, query-number-strict, LawfulSpelling, lawful}
+use Rattle.querygrammar.proofs.Query.{variance-exact, signbox-list-laws, bare-list-exact, optional-head-exact}
 
--- a coordinate, and what has one
-abbrev pub exactPoint : Format (ℕ × ℕ)
-exactPoint = point (exactTokens Fsw)
-
-pub point-delimited : Delimited 1 exactPoint
-point-delimited = point-fixed (exactTokens Fsw) (exact-lawful Fsw) .delimited
-
-exact-point : Exact 1 exactPoint
+pub exact-point : Exact 1 (point (exactTokens Fsw))
 exact-point = point-exact (exactTokens Fsw) (exact Fsw)
 
-abbrev pub exactItem : Format SoughtText
-exactItem = signboxItemWith exactPoint
+module _ (s : Spelling) (l : LawfulSpelling s) (x : Exact 1 (coordinate s)) where
+  pub signbox-list-exact : Exact 1 (signboxList s)
+  signbox-list-exact = sequence-exact 1 (bareList s) (λ v. optional (coordinate s)) (bare-list-exact s l) λ v ok. optional-exact 1 (coordinate s) x
 
-pub item-exact : Exact 1 exactItem
-item-exact = sequence-exact 1 item (λ i. optional exactPoint) (item-strict .exact) λ i ok. optional-exact 1 exactPoint exact-point
+  pub signbox-lists-exact : Exact 1 (many (signboxList s))
+  signbox-lists-exact = many-exact 1 (signboxList s) signbox-list-exact (signbox-list-laws s l .opens .solid)
 
-pub item-solid : (v : SoughtText) → exactItem .Valid v → 1 ≤ length (exactItem .write v)
-item-solid v ok = omega (arith, length-append (item .write (v .0)) (optional exactPoint .write (v .1)), solid 1 item item-delimited (v .0) (ok .0))
+  pub tail-exact : Exact 1 (tail s)
+  tail-exact = sequence-exact 1 (many (signboxList s)) (λ v. variance) signbox-lists-exact λ v ok. variance-exact
 
-pub items-exact : Exact 1 (many exactItem)
-items-exact = many-exact 1 exactItem item-exact item-solid
+  pub after-q-exact : Exact 1 (afterQ s)
+  after-q-exact = sequence-exact 1 (optional (head s)) (λ h. tail s) (optional-head-exact s l) λ h ok. tail-exact
 
-some-exact : Exact 1 someItems
-some-exact = sequence-exact 1 item (λ i. many item) (item-strict .exact) λ i ok. many-exact 1 item (item-strict .exact) (solid 1 item item-delimited)
+  pub query-exact : Exact 1 (query s)
+  query-exact = after-exact 81 (afterQ s) after-q-exact
 
-pub head-exact : Exact 1 (optional head)
-head-exact =
-    optional-exact 1 head
-    (either-exact 1 (byte 84) (after 65 prefixItems) (byte-exact 84)
-    (after-exact 65 prefixItems (sequence-exact 1 someItems (λ l. byte 84) some-exact λ l ok. byte-exact 84)))
+pub swu-exact : Exact 1 (query secondSwu)
+swu-exact =
+    query-exact secondSwu (lawful (Second Swu)) (sequence-exact 1 queryNumber (λ x. queryNumber) (query-number-strict .exact) λ x ok. query-number-strict .exact)
 
-figure-exact : Exact 1 (digit 0 9)
-figure-exact = digit-exact 0 9 (omega arith) (omega arith)
+-- a spelling with coordinates in FSW, by the format of their numbers; with exact ones, it is exact
+abbrev pub withNumber : Format ℕ → Spelling → Spelling
+withNumber number s = record {
+  Says = s .Says;
+  means = s .means;
+  prefixItem = s .prefixItem;
+  signboxItem = s .signboxItem;
+  joins = s .joins;
+  number = number;
+  second = after 120 number;
+}
 
-later-exact : Exact 1 laterFigures
-later-exact = sequence-exact 1 (digit 0 9) (λ b. optional (digit 0 9)) figure-exact λ b ok. optional-exact 1 (digit 0 9) figure-exact
+abbrev pub exactly : Spelling → Spelling
+exactly = withNumber fswNumber
 
-figures-exact : Exact 1 figures
-figures-exact = sequence-exact 1 (digit 0 9) (λ a. optional laterFigures) figure-exact λ a ok. optional-exact 1 laterFigures later-exact
+module _ (s : Spelling) (l : LawfulSpelling s) where
+  pub exactly-lawful : LawfulSpelling (exactly s)
+  exactly-lawful = record {
+    prefixItem = l .prefixItem;
+    signboxItem = l .signboxItem;
+    prefixExact = l .prefixExact;
+    signboxExact = l .signboxExact;
+    coordinate =
+        pair-point fswNumber (after 120 fswNumber) (number-strict .delimited) (after-delimited 120 fswNumber (number-strict .delimited)) number-apart
+        (λ x t a n. number-other x t a);
+  }
 
-pub variance-exact : Exact 1 variance
-variance-exact = optional-exact 1 (after 86 figures) (after-exact 86 figures figures-exact)
-
-pub tail-exact : Exact 1 (tailWith exactPoint)
-tail-exact = sequence-exact 1 (many exactItem) (λ l. variance) items-exact λ l ok. variance-exact
-
-pub after-q-exact : Exact 1 (afterQWith exactPoint)
-after-q-exact = sequence-exact 1 (optional head) (λ h. tailWith exactPoint) head-exact λ h ok. tail-exact
-
-pub query-exact : Exact 1 (queryWith exactPoint)
-query-exact = after-exact 81 (afterQWith exactPoint) after-q-exact
-
-pub exact-ready : (v : QueryText) → queryWith exactPoint .Valid v → queryWith exactPoint .Follow v []
-exact-ready = with-ready exactPoint point-delimited exact-not
+  pub fsw-exact : Exact 1 (query (exactly s))
+  fsw-exact = query-exact (exactly s) exactly-lawful exact-point

@@ -1,5 +1,9 @@
+pub mod Opens
+pub mod Scalars
+pub mod Lists
+pub mod Marks
+pub mod Items
 pub mod Query
-pub mod Follow
 pub mod ExactQuery
 pub mod QueryPlaces
 pub mod QueryLaws

@@ -1,121 +1,147 @@
--- The query is lawful.
-use Prim.Native.Nat.{ℕ, _≤_, _<_}
-use mathlib.Core.List.{List, [], _∷_, _++_}
-use mathlib.Core.Path.{_≡_, refl, ap, _∙_}
+-- The query is lawful in every spelling, its parts without coordinates are exact, and what may follow what.
+use Prim.Native.Nat.{ℕ}
+use mathlib.Core.List.{List, [], _∷_, _++_, append-assoc}
+use mathlib.Core.Path.{_≡_}
+use mathlib.Core.Logic.{inl, inr}
+use mathlib.Core.Option.{Option, none, some}
 use native.Mathlib.Omega.{arith}
-use borrow.Author.Tests.{lt-ltb, le-ltb}
-use Rattle.format.specs.Format.{other, Format, optional, many, either, orElse}
+use Rattle.format.specs.Format.{optional, many, Absent}
 use Rattle.format.proofs.Lawful.{Lawful}
+use Rattle.format.proofs.Begun.{absent-other}
 use Rattle.format.proofs.Sequence.{sequence-lawful}
-use Rattle.format.proofs.Parts.{optional-lawful, either-lawful}
-use Rattle.format.proofs.Many.{many-lawful}
-use Rattle.format.proofs.Unit.{unit-above}
-use Rattle.format.proofs.Delimited.{Delimited, Strict, sequence-strict, either-strict, optional-firm, solid}
-use Rattle.format.proofs.Open.{Open, delimited-open, sequence-open}
-use Rattle.charset.specs.Bytes.{digitOf, byteOf, digitByte, byte, digit, after}
-use Rattle.charset.specs.Tokens.{fsw}
-use Rattle.charset.proofs.Units.{byte-strict, byte-delimited, digit-strict, digit-delimited, after-strict, after-lawful}
-use Rattle.charset.proofs.Keys.{base-strict}
-use Rattle.charset.proofs.Sets.{fsw-lawful}
-use Rattle.charset.proofs.FixedByte.{after-byte}
-use Rattle.grammar.proofs.Sign.{point-fixed}
-use Rattle.querygrammar.specs.Query.{queryBase, orAny, openDigits, keyTail, rangeEnd, rangeTail, item, coordinate, signboxItem, someItems, prefixItems, head, laterFigures, figures, variance, tail, afterQ, query}
+use Rattle.format.proofs.Exact.{Exact}
+use Rattle.format.proofs.ExactParts.{sequence-exact, optional-exact, either-exact}
+use Rattle.format.proofs.ExactMany.{many-exact}
+use Rattle.charset.specs.Bytes.{byte, digit, after}
+use Rattle.charset.proofs.Coding.{byte-exact, digit-exact}
+use Rattle.charset.proofs.Units.{after-lawful, after-exact}
+use Rattle.charset.proofs.FixedByte.{byte-other, after-byte}
+use Rattle.querygrammar.specs.Spelling.{Spelling}
+use Rattle.querygrammar.specs.Query.{laterFigures, Figures, figures, variance, HeadText, QueryText, coordinate, prefixList, bareList, signboxList, someLists, prefixLists, head, tail, afterQ, query}
+use Rattle.querygrammar.proofs.Opens.{either-other}
+use Rattle.querygrammar.proofs.Lists.{Starts, Apart, Later, letter-later, Laws, many-starts, many-follow, many-laws, list-laws, list-exact, placed-laws}
+use Rattle.querygrammar.proofs.Items.{LawfulSpelling}
 
--- BYTES THAT ARE NOT THE ONE ASKED FOR
+-- THE VARIANCE
 
-pub either-other : {A B : Type 0} (f : Format A) (g : Format B) (text : List ℕ) → f .read text ≡ other → g .read text ≡ other → either f g .read text ≡ other
-either-other f g text p q = ap (λ r. orElse r (g .read text)) p ∙ ap (orElse other) q
+figure-exact : Exact 1 (digit 0 9)
+figure-exact = digit-exact 0 9 (omega arith) (omega arith)
 
--- a letter is no digit
-pub letter-digit : (x : ℕ) → 58 ≤ x → x < 97 → digitOf x ≡ 16
-unfolding digitOf
-letter-digit x h k = rw (le-ltb x 48 (omega arith), le-ltb x 58 h, lt-ltb x 97 k)
+later-exact : Exact 1 laterFigures
+later-exact = sequence-exact 1 (digit 0 9) (λ b. optional (digit 0 9)) figure-exact λ b ok. optional-exact 1 (digit 0 9) figure-exact
 
-u-digit : digitOf 117 ≡ 16
-unfolding digitOf
-u-digit = refl
+figures-exact : Exact 1 figures
+figures-exact = sequence-exact 1 (digit 0 9) (λ a. optional laterFigures) figure-exact λ a ok. optional-exact 1 laterFigures later-exact
 
-pub digit-other : (lo hi x : ℕ) (t : List ℕ) → digitOf x ≡ 16 → lo ≤ 16 → hi ≤ 15 → digit lo hi .read (x ∷ t) ≡ other
-digit-other lo hi x t e a b =
-    unit-above 1 (byteOf digitOf) (λ d. digitByte d ∷ []) lo hi (x ∷ []) t refl (omega (arith, e)) (omega (arith, e))
+pub variance-exact : Exact 1 variance
+variance-exact = optional-exact 1 (after 86 figures) (after-exact 86 figures figures-exact)
 
--- ITEMS
+pub variance-lawful : Lawful 1 variance
+variance-lawful = variance-exact .lawful
 
-query-base-strict : Strict 1 queryBase
-query-base-strict = base-strict 0x100 0x38b (omega arith) (omega arith)
+variance-later : (v : Option Figures) → Starts Later (variance .write v ++ [])
+variance-later none = tt
+variance-later (some f) = letter-later 86 (omega arith) (omega arith) (λ e. omega arith)
 
-pub query-base-delimited : Delimited 1 queryBase
-query-base-delimited = query-base-strict .delimited
-
-any-strict : (hi : ℕ) → hi ≤ 15 → Strict 1 (orAny hi)
-any-strict hi k = either-strict 1 (digit 0 hi) (byte 117) (digit-strict 0 hi (omega arith) k) (byte-strict 117) is-u
+figures-follow : (v : Option Figures) → variance .Valid v → variance .Follow v []
+figures-follow none ok = tt
+figures-follow (some f) ok = ((go (f .1), tt), tt)
   where
-    is-u : (b : ℕ) (rest : List ℕ) → byte 117 .Valid b → digit 0 hi .read (byte 117 .write b ++ rest) ≡ other
-    is-u b rest ok =
-        let e : b ≡ 117 = omega (arith, ok .0, ok .1) in
-        digit-other 0 hi b rest (ap digitOf e ∙ u-digit) (omega arith) k
+    last : (c : Option ℕ) → optional (digit 0 9) .Follow c []
+    last none = tt
+    last (some c) = tt
 
-pub any-delimited : (hi : ℕ) → hi ≤ 15 → Delimited 1 (orAny hi)
-any-delimited hi k = any-strict hi k .delimited
+    go : (b : Option (ℕ × Option ℕ)) → optional laterFigures .Follow b []
+    go none = tt
+    go (some b) = (last (b .1), tt)
 
-open-strict : Strict 1 openDigits
-open-strict = sequence-strict 1 (orAny 5) (λ f. orAny 15) (any-strict 5 (omega arith)) λ f ok. any-strict 15 (omega arith)
+module _ (s : Spelling) (l : LawfulSpelling s) where
+  -- LISTS
 
-key-strict : Strict 1 keyTail
-key-strict = sequence-strict 1 queryBase (λ b. openDigits) query-base-strict λ b ok. open-strict
+  pub prefix-list-laws : Laws Apart (prefixList s)
+  prefix-list-laws = list-laws (s .prefixItem) (l .prefixItem) (s .joins)
 
-range-strict : Strict 1 rangeTail
-range-strict = sequence-strict 1 queryBase (λ b. rangeEnd) query-base-strict λ b ok. after-strict 116 queryBase query-base-strict
+  pub bare-list-laws : Laws Apart (bareList s)
+  bare-list-laws = list-laws (s .signboxItem) (l .signboxItem) (s .joins)
 
-pub item-strict : Strict 1 item
-item-strict =
-    either-strict 1 (after 83 keyTail) (after 82 rangeTail) (after-strict 83 keyTail key-strict) (after-strict 82 rangeTail range-strict)
-    λ v rest ok. after-byte 83 keyTail 82 (rangeTail .write v ++ rest) (λ e. omega arith)
+  pub signbox-list-laws : Laws Later (signboxList s)
+  signbox-list-laws = placed-laws (bareList s) bare-list-laws (coordinate s) (l .coordinate)
 
-pub item-delimited : Delimited 1 item
-item-delimited = item-strict .delimited
+  pub signbox-lists-lawful : Lawful 1 (many (signboxList s))
+  signbox-lists-lawful = many-laws (signboxList s) signbox-list-laws
 
-pub items-lawful : Lawful 1 (many item)
-items-lawful = many-lawful 1 item (item-delimited .lawful) (solid 1 item item-delimited)
+  pub bare-list-exact : Exact 1 (bareList s)
+  bare-list-exact = list-exact (s .signboxItem) (l .signboxItem) (l .signboxExact) (s .joins)
 
-pub coordinate-delimited : Delimited 1 coordinate
-coordinate-delimited = point-fixed fsw fsw-lawful .delimited
+  -- THE PARTS OF A QUERY
 
-pub signbox-item-open : Open 1 signboxItem
-signbox-item-open =
-    sequence-open 1 item (λ i. optional coordinate) (delimited-open 1 item item-delimited) (λ i ok. optional-firm coordinate (coordinate-delimited .firm)) λ i ok.
-    optional-lawful 1 coordinate (coordinate-delimited .lawful)
+  some-lists-exact : Exact 1 (someLists s)
+  some-lists-exact =
+      let x = list-exact (s .prefixItem) (l .prefixItem) (l .prefixExact) (s .joins) in
+      sequence-exact 1 (prefixList s) (λ v. many (prefixList s)) x λ v ok. many-exact 1 (prefixList s) x (prefix-list-laws .opens .solid)
 
-pub signbox-items-lawful : Lawful 1 (many signboxItem)
-signbox-items-lawful = many-lawful 1 signboxItem (signbox-item-open .lawful) (signbox-item-open .solid)
+  pub some-lists-lawful : Lawful 1 (someLists s)
+  some-lists-lawful = some-lists-exact .lawful
 
--- THE PARTS OF A QUERY
+  pub optional-head-exact : Exact 1 (optional (head s))
+  optional-head-exact =
+      optional-exact 1 (head s)
+      (either-exact 1 (byte 84) (after 65 (prefixLists s)) (byte-exact 84)
+      (after-exact 65 (prefixLists s) (sequence-exact 1 (someLists s) (λ v. byte 84) some-lists-exact λ v ok. byte-exact 84)))
 
-pub figure-delimited : Delimited 1 (digit 0 9)
-figure-delimited = digit-delimited 0 9 (omega arith) (omega arith)
+  pub optional-head-lawful : Lawful 1 (optional (head s))
+  optional-head-lawful = optional-head-exact .lawful
 
-later-lawful : Lawful 1 laterFigures
-later-lawful = sequence-lawful 1 (digit 0 9) (λ b. optional (digit 0 9)) (figure-delimited .lawful) λ b ok. optional-lawful 1 (digit 0 9) (figure-delimited .lawful)
+  tail-lawful : Lawful 1 (tail s)
+  tail-lawful = sequence-lawful 1 (many (signboxList s)) (λ v. variance) signbox-lists-lawful λ v ok. variance-lawful
 
-figures-lawful : Lawful 1 figures
-figures-lawful = sequence-lawful 1 (digit 0 9) (λ a. optional laterFigures) (figure-delimited .lawful) λ a ok. optional-lawful 1 laterFigures later-lawful
+  pub query-lawful : Lawful 1 (query s)
+  query-lawful = after-lawful 81 (afterQ s) (sequence-lawful 1 (optional (head s)) (λ h. tail s) optional-head-lawful λ h ok. tail-lawful)
 
-pub some-lawful : Lawful 1 someItems
-some-lawful = sequence-lawful 1 item (λ i. many item) (item-delimited .lawful) λ i ok. items-lawful
+  -- WHAT MAY FOLLOW WHAT
 
-prefix-lawful : Lawful 1 prefixItems
-prefix-lawful = sequence-lawful 1 someItems (λ l. byte 84) some-lawful λ l ok. byte-delimited 84 .lawful
+  no-head : (text : List ℕ) → Starts Later text → Absent text (head s .read text)
+  no-head [] k = tt
+  no-head (x ∷ t) k =
+      absent-other (x ∷ t)
+      (either-other (byte 84) (after 65 (prefixLists s)) (x ∷ t) (byte-other 84 x t (k .1 .1 .0)) (after-byte 65 (prefixLists s) x t (λ e. omega (arith, k .1 .0, e))))
 
-head-lawful : Lawful 1 head
-head-lawful = either-lawful 1 (byte 84) (after 65 prefixItems) (byte-delimited 84 .lawful) (after-lawful 65 prefixItems prefix-lawful)
+  pub head-follow : (h : Option (HeadText (s .Says))) (text : List ℕ) → optional (head s) .Valid h → Starts Later text → optional (head s) .Follow h text
+  head-follow none text ok k = no-head text k
+  head-follow (some (inl t)) text ok k = tt
+  head-follow (some (inr p)) text ok k =
+      let t = p .1 in
+      let e : t ≡ 84 = omega (arith, ok .1 .0, ok .1 .1) in
+      let apart : Apart t = ((λ z. omega (arith, e, z), λ z. omega (arith, e, z)), λ z. omega (arith, e, z)) in (
+        byte-other 84 65 (prefixLists s .write p ++ text) (λ z. omega arith),
+        (
+          (
+            tt,
+            (
+              many-follow (prefixList s) prefix-list-laws (λ x q. q .0) (p .0 .1) (t ∷ text) (ok .0 .1) apart
+                  (absent-other (t ∷ text) (prefix-list-laws .strange t text (λ z. omega (arith, e, z)) (λ z. omega (arith, e, z)) (λ z. omega (arith, e, z)))),
+              prefix-list-laws .follows (p .0 .0) _ (ok .0 .0) (many-starts (prefixList s) prefix-list-laws (λ x q. q .0) (p .0 .1) (t ∷ text) (ok .0 .1) apart),
+            ),
+          ),
+          tt,
+        ),
+      )
 
-pub optional-head-lawful : Lawful 1 (optional head)
-optional-head-lawful = optional-lawful 1 head head-lawful
+  no-list : (v : Option Figures) → Absent (variance .write v ++ []) (signboxList s .read (variance .write v ++ []))
+  no-list none = rw (signbox-list-laws .opens .empty) tt
+  no-list (some f) =
+      let t = figures .write f ++ [] in
+      absent-other (86 ∷ t) (signbox-list-laws .strange 86 t (λ e. omega arith) (λ e. omega arith) (λ e. omega arith))
 
-tail-lawful : Lawful 1 tail
-tail-lawful =
-    sequence-lawful 1 (many signboxItem) (λ l. variance) signbox-items-lawful λ l ok.
-    optional-lawful 1 (after 86 figures) (after-lawful 86 figures figures-lawful)
-
-pub query-lawful : Lawful 1 query
-query-lawful = after-lawful 81 afterQ (sequence-lawful 1 (optional head) (λ h. tail) optional-head-lawful λ h ok. tail-lawful)
+  pub query-ready : (v : QueryText (s .Says)) → query s .Valid v → query s .Follow v []
+  query-ready v ok =
+      let m = v .1 .0 in
+      let d = v .1 .1 in
+      let w = variance .write d ++ [] in (
+        (
+          (figures-follow d (ok .1 .1), many-follow (signboxList s) signbox-list-laws (λ x k. k) m w (ok .1 .0) (variance-later d) (no-list d)),
+          head-follow (v .0) (tail s .write (v .1) ++ []) (ok .0)
+              (rw (append-assoc (many (signboxList s) .write m) (variance .write d) []) (many-starts (signboxList s) signbox-list-laws (λ x k. k) m w (ok .1 .0) (variance-later d))),
+        ),
+        tt,
+      )

@@ -1,25 +1,29 @@
--- The laws of queries, from the laws of every format.
-use Prim.Native.Nat.{ℕ}
-use mathlib.Core.List.{List, []}
-use mathlib.Core.Path.{_≡_, refl}
-use mathlib.Core.Logic.{_↔_}
-use Rattle.format.specs.Places.{fine}
+-- The laws of queries in every edition, from the laws of every format.
+use mathlib.Core.Path.{refl}
 use Rattle.format.proofs.Reading.{fine-exactly}
-use Rattle.querygrammar.specs.Query.{coordinate, QueryText, query}
-use Rattle.querygrammar.specs.QueryLaws.{readQuery, QueryLaws}
-use Rattle.querygrammar.proofs.Query.{coordinate-delimited, query-lawful}
-use Rattle.querygrammar.proofs.Follow.{told-not, with-ready}
-use Rattle.querygrammar.proofs.QueryPlaces.{query-places}
+use Rattle.format.proofs.Places.{by-bytes}
+use Rattle.charset.specs.declared.Charset.the-variants.{Fsw, Swu}
+use Rattle.querygrammar.specs.declared.Edition.{Edition}
+use Rattle.querygrammar.specs.declared.Edition.the-variants.{First, Second}
+use Rattle.querygrammar.specs.Spelling.{first, secondFsw, secondSwu, spelling}
+use Rattle.querygrammar.specs.Query.{query}
+use Rattle.querygrammar.specs.QueryLaws.{Places, QueryLaws}
+use Rattle.querygrammar.proofs.Items.{lawful}
+use Rattle.querygrammar.proofs.Query.{query-lawful, query-ready}
+use Rattle.querygrammar.proofs.ExactQuery.{swu-exact}
+use Rattle.querygrammar.proofs.QueryPlaces.{fsw-places}
 
-ready : (v : QueryText) → query .Valid v → query .Follow v []
-ready = with-ready coordinate coordinate-delimited told-not
+places : (e : Edition) → Places e
+places First = fsw-places first (lawful First)
+places (Second Fsw) = fsw-places secondFsw (lawful (Second Fsw))
+places (Second Swu) = by-bytes (query secondSwu) swu-exact (query-ready secondSwu (lawful (Second Swu)))
 
-query-fine : (text : List ℕ) (t : QueryText) → (readQuery text ≡ fine t) ↔ (query .Valid t × (text ≡ query .write t))
-query-fine = fine-exactly 1 query query-lawful ready
-
-pub query-laws : QueryLaws
-query-laws = record {
-  reads = λ t ok. query-fine (query .write t) t .1 (ok, refl);
-  writes = λ text t e. query-fine text t .0 e;
-  places = query-places;
-}
+pub query-laws : (e : Edition) → QueryLaws e
+query-laws e =
+    let f = query (spelling e) in
+    let law = fine-exactly 1 f (query-lawful (spelling e) (lawful e)) (query-ready (spelling e) (lawful e)) in
+    record {
+      reads = λ t ok. law (f .write t) t .1 (ok, refl);
+      writes = λ text t e. law text t .0 e;
+      places = places e;
+    }

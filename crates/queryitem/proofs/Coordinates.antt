@@ -1,149 +1,118 @@
--- The coordinate of an item, and items with one: one law for each return.
+-- The coordinate of an item in any edition: one law for each return.
 use Prim.Native.Nat.{ℕ, _+_, _≤_, _<_}
-use mathlib.Core.List.{List, [], _∷_}
+use mathlib.Core.List.{List}
 use mathlib.Core.Path.{_≡_, refl, sym, ap, _∙_}
-use mathlib.Core.Logic.{inl, inr}
 use mathlib.Core.Option.{Option, none, some}
 use lib.ListN.{length, drop}
 use native.Mathlib.Omega.{arith}
-use types.Run.{OneOf}
-use denote.Enum.Declared.{tagOf}
-use Rattle.format.specs.Format.{other, Format, optional}
+use Rattle.format.specs.Format.{Format, optional, first, second as next}
 use Rattle.format.specs.Located.{Located, found, wrongAt, shortHere, locate, andThen, onFound}
-use Rattle.format.proofs.At.{delimited-got, sequence-at, cut-reads}
-use Rattle.format.proofs.Ends.{optional-begun, optional-none, optional-bad, optional-cut, optional-over}
-use Rattle.charset.specs.Tokens.{fsw}
+use Rattle.format.proofs.Delimited.{Fixed}
+use Rattle.format.proofs.At.{delimited-got, Strays, here, later, wronged, sequence-at, cut-reads}
+use Rattle.format.proofs.Ends.{optional-over, optional-bad, optional-begun, optional-other, optional-short}
+use Rattle.charset.specs.declared.Charset.the-variants.{Fsw, Swu}
 use Rattle.charset.proofs.Sets.{fsw-lawful}
 use Rattle.token.specs.declared.reading.Token.{Token}
 use Rattle.token.specs.declared.reading.Token.the-variants as token
-use Rattle.token.specs.Token.{tokenAt}
-use Rattle.token.proofs.Told.{Fails, Told, told-at}
-use Rattle.querygrammar.specs.Query.{ItemText, item, coordinate, SoughtText, signboxItem, soughtOf}
-use Rattle.format.proofs.At.{Strays, here, later}
-use Rattle.format.proofs.Loop.{strays}
-use Rattle.format.proofs.Open.{delimited-open}
-use Rattle.querygrammar.proofs.Query.{item-delimited, coordinate-delimited}
-use Rattle.queryitem.specs.declared.reading.Numbers.{Numbers}
-use Rattle.queryitem.specs.declared.reading.Piece.{Piece}
-use Rattle.queryitem.specs.declared.reading.Piece.the-variants.{Found, Wrong, Short}
-use Rattle.queryitem.specs.Numbers.{numbersOf}
-use Rattle.queryitem.specs.Pieces.{failedAs, toldPiece, pieceAt, placed}
-use Rattle.queryitem.proofs.reading.Piece.{the-type}
-use Rattle.queryitem.proofs.Chains.{failed-token, found-piece, piece-is, wrong-token, short-token}
-use Rattle.queryitem.proofs.Keys.{itemNumbers}
+use Rattle.token.specs.Token.{told, tokenAt}
+use Rattle.token.proofs.Told.{Fails, value-fails, told-at}
+use Rattle.querygrammar.specs.declared.Edition.{Edition}
+use Rattle.querygrammar.specs.declared.Edition.the-variants.{First, Second}
+use Rattle.querygrammar.specs.Spelling.{queryNumber, spelling}
+use Rattle.querygrammar.specs.Query.{coordinate}
+use Rattle.querygrammar.proofs.Items.{query-number-delimited, lawful}
+use Rattle.queryitem.specs.declared.coordinate.Place.{Place}
+use Rattle.queryitem.specs.declared.coordinate.Place.the-variants.{Found, Wrong, Short}
+use Rattle.queryitem.specs.Pieces.{numberSize, failedPlace, toldPlace, coordinateAt}
+use Rattle.queryitem.proofs.Chains.{wrong-token, short-token}
 
-abbrev number : Format ℕ
-number = fsw .number
+-- THE NUMBERS
 
-abbrev second : Format ℕ
-second = fsw .second
+swu-fixed : Fixed 1 4 queryNumber
+swu-fixed = record { delimited = query-number-delimited; size = λ v ok. refl }
 
-module _ (n : Numbers) (s : List ℕ) (at : ℕ) where
+number-fixed : (e : Edition) → Fixed 1 (numberSize e) (spelling e .number)
+number-fixed First = fsw-lawful .number
+number-fixed (Second Fsw) = fsw-lawful .number
+number-fixed (Second Swu) = swu-fixed
+
+second-fixed : (e : Edition) → Fixed 1 4 (spelling e .second)
+second-fixed First = fsw-lawful .second
+second-fixed (Second Fsw) = fsw-lawful .second
+second-fixed (Second Swu) = swu-fixed
+
+pub size-most : (e : Edition) → numberSize e ≤ 4
+size-most First = omega arith
+size-most (Second Fsw) = omega arith
+size-most (Second Swu) = omega arith
+
+-- THE COORDINATE
+
+module _ (e : Edition) (s : List ℕ) (at : ℕ) where
+  abbrev number : Format ℕ
+  number = spelling e .number
+
+  abbrev second : Format ℕ
+  second = spelling e .second
+
   abbrev there : Format (Option (ℕ × ℕ))
-  there = optional coordinate
+  there = optional (coordinate (spelling e))
 
-  pub no-coordinate : at ≤ length s → length s ≤ at → Found n at ≡ pieceAt there (placed n) s at
-  no-coordinate h k = found-piece there (placed n) s at none at n (optional-over coordinate s at (omega arith) (coordinate-delimited .empty)) refl
+  placed : (r : Place) (l : Located (Option (ℕ × ℕ))) → locate there s at ≡ l → r ≡ toldPlace l → r ≡ coordinateAt e s at
+  unfolding coordinateAt
+  placed r l z q = q ∙ ap toldPlace (sym z)
 
-  coordinate-at : locate coordinate s at ≡ andThen (locate number s at) λ x i. onFound (λ y. (x, y)) (locate second s i)
-  coordinate-at = sequence-at 1 number (λ x. second) (fsw-lawful .number .delimited) s at
+  pub no-coordinate : at ≤ length s → length s ≤ at → Found 0 0 at ≡ coordinateAt e s at
+  no-coordinate h k =
+      placed (Found 0 0 at) (found none at) (optional-over (coordinate (spelling e)) s at (omega arith) (lawful e .coordinate .delimited .empty)) refl
 
-  pub absent : at ≤ length s → (p : ℕ) (t : Token) → t ≡ tokenAt number s at → t ≡ token.Wrong p → p ≡ at → Found n at ≡ pieceAt there (placed n) s at
-  absent h p t e v z = found-piece there (placed n) s at none at n (optional-none coordinate s at h (go (strays 1 coordinate (delimited-open 1 coordinate coordinate-delimited) s at at l))) refl
-    where
-      l : locate coordinate s at ≡ wrongAt at
-      l = coordinate-at ∙ ap (λ l. andThen l λ x i. onFound (λ y. (x, y)) (locate second s i)) (wrong-token number s at p t e v ∙ ap wrongAt z)
+  module _ (h : at < length s) (t : Token) (q : t ≡ tokenAt number s at) where
+    strayed : (p : ℕ) → t ≡ token.Wrong p → Strays number s at p
+    strayed p v = wronged 1 number (number-fixed e .delimited) s at p (wrong-token number s at p t q v)
 
-      go : Strays coordinate s at at → coordinate .read (drop at s) ≡ other
-      go (here z o) = o
-      go (later rest z k o) = absurd (omega arith)
+    pub absent : (p : ℕ) → t ≡ token.Wrong p → p ≡ at → Found 0 0 at ≡ coordinateAt e s at
+    absent p v z = go (strayed p v)
+      where
+        go : Strays number s at p → Found 0 0 at ≡ coordinateAt e s at
+        go (here y o) = placed (Found 0 0 at) (found none at) (optional-other number (λ x. second) s at (omega arith) o) refl
+        go (later rest y k o) = absurd (omega arith)
 
-  abbrev begins : Located ℕ → Located (ℕ × ℕ)
-  begins l = andThen l λ x i. onFound (λ y. (x, y)) (locate second s i)
+    pub number-wrong : (p : ℕ) → t ≡ token.Wrong p → (p ≡ at → ⊥) → Wrong p ≡ coordinateAt e s at
+    number-wrong p v z = go (strayed p v)
+      where
+        go : Strays number s at p → Wrong p ≡ coordinateAt e s at
+        go (here y o) = absurd (z y)
+        go (later rest y k o) =
+            placed (Wrong p) (wrongAt p)
+            (optional-bad (coordinate (spelling e)) s at rest (ap (λ r. first r λ x left. next (λ y. (x, y)) left (second .read left)) o) ∙ ap wrongAt (sym y)) refl
 
-  pub coordinate-wrong : (p : ℕ) (t : Token) → t ≡ tokenAt number s at → t ≡ token.Wrong p → (p ≡ at → ⊥) → Wrong p ≡ pieceAt there (placed n) s at
-  unfolding pieceAt
-  coordinate-wrong p t e v z = go (strays 1 coordinate (delimited-open 1 coordinate coordinate-delimited) s at p (coordinate-at ∙ ap begins (wrong-token number s at p t e v)))
-    where
-      go : Strays coordinate s at p → Wrong p ≡ toldPiece (onFound (placed n) (locate there s at))
-      go (here y o) = absurd (z y)
-      go (later rest y k o) = ap Wrong y ∙ sym (ap (λ l. toldPiece (onFound (placed n) l)) (optional-bad coordinate s at rest o))
+    pub number-short : t ≡ token.Short → Short ≡ coordinateAt e s at
+    number-short v =
+        placed Short shortHere (optional-short number (λ x. second) s at h (cut-reads number s at (short-token number s at t q v))) refl
 
-  pub coordinate-short : at < length s → (t : Token) → t ≡ tokenAt number s at → t ≡ token.Short → Short ≡ pieceAt there (placed n) s at
-  unfolding pieceAt
-  coordinate-short h t e v =
-      let l : locate coordinate s at ≡ shortHere = coordinate-at ∙ ap begins (short-token number s at t e v) in
-      sym (ap (λ l. toldPiece (onFound (placed n) l)) (optional-cut coordinate s at h (cut-reads coordinate s at l)))
+    -- where the first number is there, with its size as it was told
+    module _ (x m : ℕ) (v : t ≡ token.Value x) (z : m ≡ numberSize e) where
+      abbrev pair : Located ℕ → Located (Option (ℕ × ℕ))
+      pair l = onFound some (onFound (λ y. (x, y)) l)
 
-  module _ (x : ℕ) (t : Token) (e : t ≡ tokenAt number s at) (v : t ≡ token.Value x) where
-    x-told : Told 3 number s at x
-    x-told = told-at 1 3 number (fsw-lawful .number) s at x (sym e ∙ v)
+      there-at : locate there s at ≡ pair (locate second s (at + m))
+      there-at =
+          let k = told-at 1 (numberSize e) number (number-fixed e) s at x (sym q ∙ v) in
+          let l = k .is ∙ ap (λ m. found x (at + m)) (sym z) in
+          let g = delimited-got 1 number (number-fixed e .delimited) s at x (at + m) l in
+          optional-begun number (λ x. second) s at x (drop (at + m) s) (g .reads) h
+          ∙ ap (onFound some) (sequence-at 1 number (λ x. second) (number-fixed e .delimited) s at ∙ ap (λ l. andThen l λ x i. onFound (λ y. (x, y)) (locate second s i)) l)
 
-    there-at : locate there s at ≡ onFound some (onFound (λ y. (x, y)) (locate second s (at + 3)))
-    there-at =
-        let g = delimited-got 1 number (fsw-lawful .number .delimited) s at x (at + 3) (x-told .is) in
-        optional-begun number (λ x. second) s at x (drop (at + 3) s) (g .reads) (let r = x-told .room in omega arith)
-        ∙ ap (onFound some) (coordinate-at ∙ ap begins (x-told .is))
+      pub second-fails : (u : Token) (r : Place) → u ≡ tokenAt second s (at + m) → Fails u → r ≡ failedPlace u → r ≡ coordinateAt e s at
+      unfolding tokenAt failedPlace
+      second-fails u r w k f = placed r (pair (locate second s (at + m))) there-at (f ∙ ap failedPlace w ∙ go (locate second s (at + m)) (rw w at k))
+        where
+          go : (l : Located ℕ) → Fails (told l) → failedPlace (told l) ≡ toldPlace (pair l)
+          go (found y i) h = value-fails y h
+          go (wrongAt p) h = refl
+          go shortHere h = refl
 
-    pub coordinate-fails : (q : Token) (r : Piece) → q ≡ tokenAt second s (at + 3) → Fails q → r ≡ failedAs q → r ≡ pieceAt there (placed n) s at
-    coordinate-fails q r =
-        failed-token there (placed n) s at second (at + 3) q r
-        (record { wrongs = λ p z. there-at ∙ ap (λ l. onFound some (onFound (λ y. (x, y)) l)) z; cuts = λ z. there-at ∙ ap (λ l. onFound some (onFound (λ y. (x, y)) l)) z })
-
-    pub coordinate-found : (y : ℕ) (q : Token) → q ≡ tokenAt second s (at + 3) → q ≡ token.Value y
-        → Found (record { lo = n .lo; hi = n .hi; turn = n .turn; x = x; y = y }) (at + 7) ≡ pieceAt there (placed n) s at
-    coordinate-found y q z w =
-        let k = told-at 1 4 second (fsw-lawful .second) s (at + 3) y (sym z ∙ w) in
-        found-piece there (placed n) s at (some (x, y)) (at + 7) (record { lo = n .lo; hi = n .hi; turn = n .turn; x = x; y = y })
-        (there-at ∙ ap (λ l. onFound some (onFound (λ y. (x, y)) l)) (k .is ∙ ap (found y) (omega arith))) refl
-
--- ITEMS WITH OR WITHOUT A COORDINATE
-
-abbrev soughtNumbers : SoughtText → Numbers
-soughtNumbers p = numbersOf (soughtOf p)
-
--- what is known of an item that was found
-pub record Piecewise (f : Format ItemText) (numbers : ItemText → Numbers) (s : List ℕ) (at : ℕ) (n : Numbers) (next : ℕ) : Type 0 where
-  pub says : ItemText
-  pub is : locate f s at ≡ found says next
-  pub means : n ≡ numbers says
-
-module _ (s : List ℕ) (at : ℕ) where
-  sought-at : locate signboxItem s at ≡ andThen (locate item s at) λ v i. onFound (λ c. (v, c)) (locate (optional coordinate) s i)
-  sought-at = sequence-at 1 item (λ i. optional coordinate) item-delimited s at
-
-  fails-go : (l : Located ItemText) → OneOf (1 ∷ 2 ∷ []) (tagOf the-type (toldPiece (onFound itemNumbers l)))
-      → toldPiece (onFound itemNumbers l) ≡ toldPiece (onFound soughtNumbers (andThen l λ v i. onFound (λ c. (v, c)) (locate (optional coordinate) s i)))
-  fails-go (found v i) (inl h) = absurd (omega (arith, h))
-  fails-go (found v i) (inr h) = absurd (omega (arith, h))
-  fails-go (wrongAt p) h = refl
-  fails-go shortHere h = refl
-
-  pub sought-fails : (r : Piece) → r ≡ pieceAt item itemNumbers s at → OneOf (1 ∷ 2 ∷ []) (tagOf the-type r) → r ≡ pieceAt signboxItem soughtNumbers s at
-  unfolding pieceAt
-  sought-fails r e h = e ∙ fails-go (locate item s at) (rw e at h) ∙ ap (λ l. toldPiece (onFound soughtNumbers l)) (sym sought-at)
-
-  found-go : (l : Located ItemText) (n : Numbers) (next : ℕ) → locate item s at ≡ l → toldPiece (onFound itemNumbers l) ≡ Found n next → Piecewise item itemNumbers s at n next
-  found-go (found v i) n next e q =
-      let x : itemNumbers v ≡ n = cc in let y : i ≡ next = cc in
-      record { says = v; is = e ∙ ap (found v) y; means = sym x }
-  found-go (wrongAt p) n next e q = absurd (let z : _≡_ {A = ℕ} 0 1 = cc in omega arith)
-  found-go shortHere n next e q = absurd (let z : _≡_ {A = ℕ} 0 1 = cc in omega arith)
-
-  pub item-found : (n : Numbers) (next : ℕ) (r : Piece) → r ≡ pieceAt item itemNumbers s at → r ≡ Found n next → Piecewise item itemNumbers s at n next
-  unfolding pieceAt
-  item-found n next r e q = found-go (locate item s at) n next refl (sym e ∙ q)
-
-  pub item-inside : (n : Numbers) (next : ℕ) → Piecewise item itemNumbers s at n next → next ≤ length s
-  item-inside n next k = delimited-got 1 item item-delimited s at (k .says) next (k .is) .room
-
-  pub sought-is : (n : Numbers) (next : ℕ) (r : Piece) → Piecewise item itemNumbers s at n next → r ≡ pieceAt (optional coordinate) (placed n) s next
-      → r ≡ pieceAt signboxItem soughtNumbers s at
-  sought-is n next r k q =
-      piece-is signboxItem soughtNumbers (optional coordinate) (placed n) s at next (λ c. (k .says, c)) r
-      (sought-at ∙ ap (λ l. andThen l λ v i. onFound (λ c. (v, c)) (locate (optional coordinate) s i)) (k .is))
-      with-it q
-    where
-      with-it : (c : Option (ℕ × ℕ)) → soughtNumbers (k .says, c) ≡ placed n c
-      with-it none = sym (k .means)
-      with-it (some p) = λ i. placed (sym (k .means) i) (some p)
+      pub both-found : (y : ℕ) (u : Token) → u ≡ tokenAt second s (at + m) → u ≡ token.Value y → Found x y (at + m + 4) ≡ coordinateAt e s at
+      both-found y u w f =
+          placed (Found x y (at + m + 4)) (found (some (x, y)) (at + m + 4))
+          (there-at ∙ ap pair (told-at 1 4 second (second-fixed e) s (at + m) y (sym w ∙ f) .is)) refl

@@ -1,4 +1,7 @@
 pub mod Chains
-pub mod Keys
+pub mod Digits
+pub mod FswItems
+pub mod SwuItems
 pub mod Coordinates
+pub mod Answers
 pub mod Rows

@@ -3,28 +3,38 @@
 --   kind  prefix items  signbox items  variance   then a row for each item, those of the prefix first:
 --   x  y  alternatives                            then for each alternative:  lo  hi  turn
 --
--- Rows say themselves where they end. An item of document 01, "A query", is its only alternative.
+-- Rows say themselves where they end.
 use Prim.Native.Nat.{ℕ}
 use mathlib.Core.List.{List, [], _∷_, _++_, map}
+use mathlib.Core.Option.{none}
 use lib.ListN.{length}
-use Rattle.querygrammar.specs.Query.{Item, Sought, Query, itemsOf, kindOf}
-use Rattle.queryitem.specs.Numbers.{lowest, highest, remainder, xOf, yOf, bareItem}
+use Rattle.querygrammar.specs.Spelling.{Item}
+use Rattle.querygrammar.specs.Query.{Sought, Query, listsOf, kindOf}
+use Rattle.queryitem.specs.Numbers.{lowest, highest, remainder, xOf, yOf}
 
--- the array has room for 32 prefix items and 32 signbox items: 4 + 64 * 6
+-- the array has room for 32 prefix items and 32 signbox items of eight alternatives each: 4 + 64 * 27
 abbrev pub wordCount : ℕ
-wordCount = 388
+wordCount = 1732
 
 abbrev pub itemWords : Item → List ℕ
 itemWords i = lowest i ∷ highest i ∷ remainder i ∷ []
 
+abbrev pub itemsWords : List Item → List ℕ
+itemsWords [] = []
+itemsWords (i ∷ l) = itemWords i ++ itemsWords l
+
 abbrev pub rowWords : Sought → List ℕ
-rowWords s = xOf (s .coordinate) ∷ yOf (s .coordinate) ∷ 1 ∷ itemWords (s .item)
+rowWords s = xOf (s .coordinate) ∷ yOf (s .coordinate) ∷ length (s .alternatives) ∷ itemsWords (s .alternatives)
 
 abbrev pub rowsWords : List Sought → List ℕ
 rowsWords [] = []
 rowsWords (s ∷ l) = rowWords s ++ rowsWords l
 
+-- an item of the prefix has no coordinate
+abbrev pub bare : List Item → Sought
+bare l = record { alternatives = l; coordinate = none }
+
 unfoldable pub wordsOf : Query → List ℕ
 wordsOf q =
-    kindOf (q .prefix) ∷ length (itemsOf (q .prefix)) ∷ length (q .items) ∷ q .variance
-    ∷ (rowsWords (map bareItem (itemsOf (q .prefix))) ++ rowsWords (q .items))
+    kindOf (q .prefix) ∷ length (listsOf (q .prefix)) ∷ length (q .items) ∷ q .variance
+    ∷ (rowsWords (map bare (listsOf (q .prefix))) ++ rowsWords (q .items))

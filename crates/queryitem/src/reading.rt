@@ -1,24 +1,19 @@
-// Reading one item of a query at an offset of a text, byte by byte, so that the place of what is wrong is known.
+// Reading one item in FSW at an offset of a text, byte by byte, so that the place of what is wrong is known.
 ghost use mathlib.Core.Path.{_≡_};
 ghost use Prim.Native.Nat.{_+_, _^_, _≤_};
 ghost use lib.ListN.{length};
 ghost use mathlib.Core.Logic.{inl, inr};
-ghost use Rattle.format.specs.Format.{optional};
-ghost use Rattle.querygrammar.specs.Query.{keyItem, rangeItem, itemOf, soughtOf, keyTail, rangeText, item, coordinate, signboxItem};
-ghost use Rattle.queryitem.specs.Numbers.{turnOf, bare, numbersOf};
-ghost use Rattle.queryitem.specs.Pieces.{given, openAt, failedAs, pieceAt, placed, sort, resultOf, soughtAt};
-use charset::Charset;
+ghost use Rattle.querygrammar.specs.Spelling.{keyItem, rangeItem, nullItem, keyTail, rangeText, fswMeaning};
+ghost use Rattle.queryitem.specs.Numbers.{turnOf, numbersOf};
+ghost use Rattle.queryitem.specs.Pieces.{given, openAt, failedAs, pieceAt, symbolAt, fswAt};
 use token::reading::LAST_PUNCTUATION;
 use token::reading::Token;
 
-// An item as five numbers: codes of lo to hi, whose remainder by 16 is turn unless turn is 16,
-// at the coordinate x, y unless x is 0.
+// An item as three numbers: codes of lo to hi, whose remainder by 16 is turn unless turn is 16.
 pub struct Numbers {
     pub lo: u16,
     pub hi: u16,
     pub turn: u16,
-    pub x: u16,
-    pub y: u16,
 }
 
 // What reading an item finds: the item and the offset after it, the offset of the byte that is not allowed,
@@ -30,7 +25,7 @@ pub enum Piece {
 }
 
 // A part of an item that is no value.
-fn failed(t: Token) -> Piece
+pub fn failed(t: Token) -> Piece
     ensures { λ r. ⌜ r ≡ failedAs t ⌝ }
 {
     match t {
@@ -67,9 +62,9 @@ fn turn_of(rotation: u16) -> u16
 }
 
 // A symbol key, with 6 for an open fill and 16 for an open rotation.
-fn key_numbers(base: u16, fill: u16, rotation: u16) -> Numbers
+pub fn key_numbers(base: u16, fill: u16, rotation: u16) -> Numbers
     requires { ⌜ (0x100 ≤ base) × (base ≤ 0x38b) × (fill ≤ 6) × (rotation ≤ 16) ⌝ }
-    ensures { λ r. ⌜ r ≡ bare (keyItem base (given 5 fill) (given 15 rotation)) ⌝ }
+    ensures { λ r. ⌜ r ≡ numbersOf (keyItem base (given 5 fill) (given 15 rotation)) ⌝ }
 {
     let first = (base - 0x100) * 96 + 1;
     let turn = turn_of(rotation);
@@ -77,38 +72,42 @@ fn key_numbers(base: u16, fill: u16, rotation: u16) -> Numbers
         return Numbers {
             lo: first,
             hi: first + 95,
-            turn: turn,
-            x: 0,
-            y: 0,
+            turn,
         };
     }
     let lo = first + fill * 16;
     Numbers {
-        lo: lo,
+        lo,
         hi: lo + 15,
-        turn: turn,
-        x: 0,
-        y: 0,
+        turn,
     }
 }
 
-fn range_numbers(from: u16, to: u16) -> Numbers
+pub fn null_numbers() -> Numbers
+    ensures { λ r. ⌜ r ≡ numbersOf nullItem ⌝ }
+{
+    Numbers {
+        lo: 0,
+        hi: 0,
+        turn: 16,
+    }
+}
+
+pub fn range_numbers(from: u16, to: u16) -> Numbers
     requires { ⌜ (0x100 ≤ from) × (from ≤ 0x38b) × (0x100 ≤ to) × (to ≤ 0x38b) ⌝ }
-    ensures { λ r. ⌜ r ≡ bare (rangeItem from to) ⌝ }
+    ensures { λ r. ⌜ r ≡ numbersOf (rangeItem from to) ⌝ }
 {
     Numbers {
         lo: (from - 0x100) * 96 + 1,
         hi: (to - 0x100) * 96 + 1 + 95,
         turn: 16,
-        x: 0,
-        y: 0,
     }
 }
 
-// What follows the S of an item.
+// What follows the S of a symbol key.
 fn key_at(s: &[u8], at: usize) -> Piece
     requires { ⌜ at + 32 ≤ 2 ^ 64 ⌝ }
-    ensures { λ r. ⌜ r ≡ pieceAt keyTail (λ k. bare (itemOf (inl k))) (now (s .entry)) at ⌝ }
+    ensures { λ r. ⌜ r ≡ pieceAt keyTail (λ k. numbersOf (fswMeaning (inl (inr k)))) (now (s .entry)) at ⌝ }
 {
     let base = token::reading::three_at(s, at, 256, 16, 0x100, LAST_PUNCTUATION);
     let Token::Value(b) = base else {
@@ -125,10 +124,30 @@ fn key_at(s: &[u8], at: usize) -> Piece
     Piece::Found(key_numbers(b, f, r), at + 5)
 }
 
+// What follows the S of a symbol key or, where null may stand, of null.
+fn symbol_at(s: &[u8], at: usize, null: bool) -> Piece
+    requires { ⌜ at + 32 ≤ 2 ^ 64 ⌝ }
+    ensures { λ r. ⌜ r ≡ symbolAt null (now (s .entry)) at ⌝ }
+{
+    if !null {
+        return key_at(s, at);
+    }
+    match token::reading::null_at(s, at) {
+        Token::Value(_) => Piece::Found(null_numbers(), at + 5),
+        Token::Wrong(p) => {
+            if p == at {
+                return key_at(s, at);
+            }
+            Piece::Wrong(p)
+        }
+        Token::Short => Piece::Short,
+    }
+}
+
 // The R of an item and what follows it.
 fn range_at(s: &[u8], at: usize) -> Piece
     requires { ⌜ at + 32 ≤ 2 ^ 64 ⌝ }
-    ensures { λ r. ⌜ r ≡ pieceAt rangeText (λ p. bare (itemOf (inr p))) (now (s .entry)) at ⌝ }
+    ensures { λ r. ⌜ r ≡ pieceAt rangeText (λ p. numbersOf (fswMeaning (inr p))) (now (s .entry)) at ⌝ }
 {
     let letter = token::reading::byte_at(s, at, b'R');
     let Token::Value(_) = letter else {
@@ -149,70 +168,14 @@ fn range_at(s: &[u8], at: usize) -> Piece
     Piece::Found(range_numbers(from, to), at + 8)
 }
 
-// An item without a coordinate.
-fn item_at(s: &[u8], at: usize) -> Piece
-    requires { ⌜ at + 64 ≤ 2 ^ 64 ⌝ }
-    ensures { λ r. ⌜ r ≡ pieceAt item (λ i. bare (itemOf i)) (now (s .entry)) at ⌝ }
+// An item, with null among them or without.
+pub fn fsw_item_at(s: &[u8], at: usize, null: bool) -> Piece
+    requires { ⌜ at ≤ length (now s) ⌝ }
+    ensures { λ r. ⌜ r ≡ fswAt null (now (s .entry)) at ⌝ }
 {
     match token::reading::byte_at(s, at, b'S') {
-        Token::Value(_) => key_at(s, at + 1),
+        Token::Value(_) => symbol_at(s, at + 1, null),
         Token::Wrong(_) => range_at(s, at),
         Token::Short => Piece::Short,
     }
-}
-
-// The coordinate of an item, if there is one.
-fn coordinate_at(s: &[u8], at: usize, n: Numbers) -> Piece
-    requires { ⌜ at ≤ length (now s) ⌝ }
-    ensures { λ r. ⌜ r ≡ pieceAt (optional coordinate) (placed n) (now (s .entry)) at ⌝ }
-{
-    if s.len() <= at {
-        return Piece::Found(n, at);
-    }
-    match token::reading::number_at(Charset::Fsw, s, at) {
-        Token::Value(x) => {
-            let second = token::reading::second_at(Charset::Fsw, s, at + 3);
-            let Token::Value(y) = second else {
-                return failed(second);
-            };
-            let found = Numbers {
-                lo: n.lo,
-                hi: n.hi,
-                turn: n.turn,
-                x: x,
-                y: y,
-            };
-            Piece::Found(found, at + 7)
-        }
-        Token::Wrong(p) => {
-            if p == at {
-                return Piece::Found(n, at);
-            }
-            Piece::Wrong(p)
-        }
-        Token::Short => Piece::Short,
-    }
-}
-
-// An item with or without a coordinate.
-fn signbox_item_at(s: &[u8], at: usize) -> Piece
-    requires { ⌜ at ≤ length (now s) ⌝ }
-    ensures { λ r. ⌜ r ≡ pieceAt signboxItem (λ p. numbersOf (soughtOf p)) (now (s .entry)) at ⌝ }
-{
-    let piece = item_at(s, at);
-    let Piece::Found(n, next) = piece else {
-        return piece;
-    };
-    coordinate_at(s, next, n)
-}
-
-// An item of the signbox, or one of the prefix.
-pub fn sought_at(s: &[u8], at: usize, boxed: bool) -> Piece
-    requires { ⌜ at ≤ length (now s) ⌝ }
-    ensures { λ r. ⌜ resultOf (length (now (s .entry))) r ≡ soughtAt (sort boxed) (now (s .entry)) at ⌝ }
-{
-    if boxed {
-        return signbox_item_at(s, at);
-    }
-    item_at(s, at)
 }

@@ -5,15 +5,15 @@
 //
 // Zeros follow the last row.
 
-// Room for MOST_ITEMS prefix items and MOST_ITEMS signbox items of one alternative each: 4 + 64 * 6.
-pub const WORDS: usize = 388;
+// Room for MOST_ITEMS prefix items and MOST_ITEMS signbox items of MOST_ALTERNATIVES each: 4 + 64 * (3 + 8 * 3).
+pub const WORDS: usize = 1732;
 
 pub const MOST_ITEMS: usize = 32;
 
-// The offset of the first row, and the words of a row with one alternative.
-pub const FIRST_ROW: usize = 4;
+pub const MOST_ALTERNATIVES: usize = 8;
 
-pub const ROW: usize = 6;
+// The offset of the first row.
+pub const FIRST_ROW: usize = 4;
 
 // What condition 0 asks of the prefix: nothing, that there is one, or that it begins with items.
 pub const FREE: u16 = 0;

@@ -19,10 +19,10 @@ use Rattle.grammar.proofs.Sign.{sequence-other}
 use Rattle.token.specs.declared.reading.Token.{Token}
 use Rattle.token.specs.declared.reading.Token.the-variants.{Value, Wrong}
 use Rattle.token.specs.Token.{told, tokenAt}
-use Rattle.token.proofs.Told.{Fails, Told, told-at}
+use Rattle.token.proofs.Told.{Fails, value-fails, Told, told-at}
 use Rattle.querygrammar.specs.Query.{laterFigures, Figures, figures, varianceOf}
-use Rattle.querygrammar.proofs.Query.{figure-delimited}
-use Rattle.queryitem.proofs.Chains.{Carries, carries, value-fails, byte-there}
+use Rattle.querygrammar.proofs.Items.{figure-delimited}
+use Rattle.queryitem.proofs.Chains.{byte-there}
 use Rattle.querypart.specs.Inner.{toldEnd, figuresEnd, varianceEnd}
 
 -- the end of the text after a value
@@ -37,6 +37,14 @@ unfolding onFine
 told-on to c (fine a) = refl
 told-on to c (refused p) = refl
 told-on to c endsShort = refl
+
+-- where l fails, q fails alike
+record Carries {A B : Type 0} (l : Located A) (q : Located B) : Type 0 where
+  pub wrongs : (p : ℕ) → l ≡ wrongAt p → q ≡ wrongAt p
+  pub cuts : l ≡ shortHere → q ≡ shortHere
+
+carries : {A B : Type 0} (l : Located A) (k : A → ℕ → Located B) (q : Located B) → q ≡ andThen l k → Carries l q
+carries l k q e = record { wrongs = λ p z. e ∙ ap (λ l. andThen l k) z; cuts = λ z. e ∙ ap (λ l. andThen l k) z }
 
 module _ (s : List ℕ) where
   abbrev endOf : {A : Type 0} → Format A → ℕ → Outcome A

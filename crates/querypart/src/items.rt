@@ -1,112 +1,183 @@
 // Items of the signbox or of the prefix, into the words of a query: every item is read and counted, and the first 32 are kept.
 ghost use mathlib.Core.Path.{_≡_};
-ghost use Prim.Native.Nat.{_+_, _≤_};
+ghost use Prim.Native.Nat.{_+_, _≤_, min};
 ghost use lib.ListN.{length};
+ghost use mathlib.Core.Bool.{true, false, not, _||_};
+ghost use lib.Dec.{leb};
 ghost use Rattle.queryitem.specs.Words.{wordCount};
-ghost use Rattle.querypart.specs.Inner.{orEarlier, noted, keptRow, ItemsIn};
-use queryitem::reading::Numbers;
-use queryitem::reading::Piece;
+ghost use Rattle.querypart.specs.Inner.{item, OneIn, ItemsIn};
+use super::alternatives::Listed;
+use super::alternatives::alternatives_into;
+use super::alternatives::list_of;
+use super::alternatives::no_list;
+use super::alternatives::or_earlier;
+use super::alternatives::put_three;
+use super::alternatives::slot;
+use querygrammar::Edition;
+use queryitem::coordinate::Place;
+use queryitem::words::MOST_ALTERNATIVES;
 use queryitem::words::MOST_ITEMS;
-use queryitem::words::ROW;
 use queryitem::words::WORDS;
 use token::refusal::DONE;
 use token::refusal::TEXT_SHORT;
 use token::refusal::TEXT_WRONG;
 
-// How many items were read, the offset after them, and that of the first reversed range or 0;
-// or the refusal.
+// How many items were read, the offset after them, that of the first reversed range or 0, whether one has more than
+// eight alternatives, and the offset after their rows; or the refusal.
 pub struct Count {
     pub number: u8,
     pub place: usize,
     pub count: usize,
     pub reversed: usize,
+    pub crowded: bool,
+    pub row: usize,
 }
 
-pub fn counted(place: usize, count: usize, reversed: usize) -> Count
-    ensures { λ r. ⌜ r ≡ record { number = 0; place = place; count = count; reversed = reversed } ⌝ }
-{
-    Count {
-        number: DONE,
-        place,
-        count,
-        reversed,
-    }
-}
-
-pub fn no_count(number: u8, place: usize) -> Count
-    ensures { λ r. ⌜ r ≡ record { number = number; place = place; count = 0; reversed = 0 } ⌝ }
+pub fn no_count(number: u8, place: usize, row: usize) -> Count
+    ensures { λ r. ⌜ r ≡ record { number = number; place = place; count = 0; reversed = 0; crowded = false; row = row } ⌝ }
 {
     Count {
         number,
         place,
         count: 0,
         reversed: 0,
+        crowded: false,
+        row,
     }
 }
 
-// The earlier of two offsets, of which 0 is none.
-pub fn or_earlier(earlier: usize, later: usize) -> usize
-    ensures { λ r. ⌜ r ≡ orEarlier earlier later ⌝ }
+pub fn counted(place: usize, count: usize, reversed: usize, crowded: bool, row: usize) -> Count
+    ensures { λ r. ⌜ r ≡ record { number = 0; place = place; count = count; reversed = reversed; crowded = crowded; row = row } ⌝ }
 {
-    if earlier != 0 {
-        return earlier;
+    Count {
+        number: DONE,
+        place,
+        count,
+        reversed,
+        crowded,
+        row,
     }
-    later
 }
 
-// The offset of the first reversed range, where an item stands at an offset after an earlier one.
-fn note(earlier: usize, item: Numbers, at: usize) -> usize
-    ensures { λ r. ⌜ r ≡ orEarlier earlier (noted item at) ⌝ }
+// How many of so many alternatives are kept.
+fn kept(count: usize) -> usize
+    ensures { λ r. ⌜ r ≡ min count 8 ⌝ }
 {
-    if item.hi < item.lo {
-        return or_earlier(earlier, at);
+    if count < MOST_ALTERNATIVES {
+        return count;
     }
-    or_earlier(earlier, 0)
+    MOST_ALTERNATIVES
 }
 
-// The row of an item, as row n of those that start at an offset, if it is one of the first MOST_ITEMS.
-fn keep_row(words: &mut [u16; WORDS], from: usize, n: usize, item: Numbers)
-    requires { ⌜ (length (now words) ≡ wordCount) × (from + 192 ≤ wordCount) ⌝ }
-    ensures { λ r. ⌜ now (words .exit) ≡ keptRow (now (words .entry)) from n item ⌝ }
+// Whether an item before had more than MOST_ALTERNATIVES, or one with so many does.
+fn or_crowded(before: bool, count: usize) -> bool
+    ensures { λ r. ⌜ r ≡ before || not (leb count 8) ⌝ }
 {
-    if n < MOST_ITEMS {
-        let at = from + ROW * n;
-        words[at] = item.x;
-        words[at + 1] = item.y;
-        words[at + 2] = 1;
-        words[at + 3] = item.lo;
-        words[at + 4] = item.hi;
-        words[at + 5] = item.turn;
+    if before {
+        return true;
+    }
+    MOST_ALTERNATIVES < count
+}
+
+// An item of the prefix with its alternatives, as the row at an offset.
+fn prefix_row_into(
+    s: &[u8],
+    at: usize,
+    edition: Edition,
+    words: &mut [u16; WORDS],
+    row: usize,
+) -> Listed
+    requires { ⌜ (1 ≤ at) × (at ≤ length (now s)) × (length (now words) ≡ wordCount) × (row + 27 ≤ wordCount) ⌝ }
+    ensures { λ r. ⌜ OneIn (item edition false) (now (s .entry)) at row r (now (words .entry)) (now (words .exit)) ⌝ }
+{
+    let r = alternatives_into(s, at, edition, false, words, row + 3);
+    let number = r.number;
+    if number != DONE {
+        return r;
+    }
+    put_three(words, row, 0, 0, kept(r.count) as u16);
+    r
+}
+
+// An item of the signbox with its alternatives and their coordinate, as the row at an offset.
+fn signbox_row_into(
+    s: &[u8],
+    at: usize,
+    edition: Edition,
+    words: &mut [u16; WORDS],
+    row: usize,
+) -> Listed
+    requires { ⌜ (1 ≤ at) × (at ≤ length (now s)) × (length (now words) ≡ wordCount) × (row + 27 ≤ wordCount) ⌝ }
+    ensures { λ r. ⌜ OneIn (item edition true) (now (s .entry)) at row r (now (words .entry)) (now (words .exit)) ⌝ }
+{
+    let r = alternatives_into(s, at, edition, true, words, row + 3);
+    let number = r.number;
+    let count = r.count;
+    if number != DONE {
+        return r;
+    }
+    match queryitem::coordinate::coordinate_at(s, r.place, edition) {
+        Place::Found(x, y, next) => {
+            put_three(words, row, x, y, kept(count) as u16);
+            list_of(next, count, r.reversed)
+        }
+        Place::Wrong(p) => no_list(TEXT_WRONG, p),
+        Place::Short => no_list(TEXT_SHORT, s.len()),
     }
 }
 
-// Items of the signbox or of the prefix as far as they go: all are counted, and the rows of the first MOST_ITEMS
-// kept from an offset of the words on.
-pub fn items_into(s: &[u8], at: usize, boxed: bool, words: &mut [u16; WORDS], from: usize) -> Count
-    requires { ⌜ (1 ≤ at) × (at ≤ length (now s)) × (length (now words) ≡ wordCount) × (from + 192 ≤ wordCount) ⌝ }
-    ensures { λ r. ⌜ ItemsIn boxed (now (s .entry)) at from r (now (words .entry)) (now (words .exit)) ⌝ }
+// An item of the signbox, or one of the prefix, as the row at an offset.
+fn row_into(
+    s: &[u8],
+    at: usize,
+    edition: Edition,
+    boxed: bool,
+    words: &mut [u16; WORDS],
+    row: usize,
+) -> Listed
+    requires { ⌜ (1 ≤ at) × (at ≤ length (now s)) × (length (now words) ≡ wordCount) × (row + 27 ≤ wordCount) ⌝ }
+    ensures { λ r. ⌜ OneIn (item edition boxed) (now (s .entry)) at row r (now (words .entry)) (now (words .exit)) ⌝ }
+{
+    if boxed {
+        return signbox_row_into(s, at, edition, words, row);
+    }
+    prefix_row_into(s, at, edition, words, row)
+}
+
+// Items as far as they go: all are counted, and the rows of the first MOST_ITEMS kept from an offset of the words on.
+pub fn items_into(
+    s: &[u8],
+    at: usize,
+    edition: Edition,
+    boxed: bool,
+    words: &mut [u16; WORDS],
+    from: usize,
+) -> Count
+    requires { ⌜ (1 ≤ at) × (at ≤ length (now s)) × (length (now words) ≡ wordCount) × (from + 864 ≤ wordCount) ⌝ }
+    ensures { λ r. ⌜ ItemsIn edition boxed (now (s .entry)) at from r (now (words .entry)) (now (words .exit)) ⌝ }
 {
     let mut n: usize = 0;
     let mut i = at;
     let mut reversed: usize = 0;
+    let mut crowded = false;
+    let mut row = from;
     while i < s.len() {
-        match queryitem::reading::sought_at(s, i, boxed) {
-            Piece::Found(item, next) => {
-                keep_row(words, from, n, item);
-                reversed = note(reversed, item, i);
-                n += 1;
-                i = next;
+        let here = slot(n, MOST_ITEMS, row, from);
+        let r = row_into(s, i, edition, boxed, words, here);
+        let number = r.number;
+        let place = r.place;
+        let count = r.count;
+        if number != DONE {
+            if place == i {
+                return counted(i, n, reversed, crowded, row);
             }
-            Piece::Wrong(p) => {
-                if p == i {
-                    return counted(i, n, reversed);
-                }
-                return no_count(TEXT_WRONG, p);
-            }
-            Piece::Short => {
-                return no_count(TEXT_SHORT, s.len());
-            }
+            return no_count(number, place, from);
         }
+        reversed = or_earlier(reversed, r.reversed);
+        crowded = or_crowded(crowded, count);
+        row = here + 3 + 3 * kept(count);
+        n += 1;
+        i = place;
     }
-    counted(i, n, reversed)
+    counted(i, n, reversed, crowded, row)
 }

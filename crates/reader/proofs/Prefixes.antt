@@ -10,6 +10,7 @@ use Rattle.format.specs.Format.{Format, other, short, optional, many}
 use Rattle.format.specs.Located.{Located, found, wrongAt, shortHere, locate, andThen as thenLocated, onFound}
 use Rattle.format.proofs.Delimited.{Delimited, solid}
 use Rattle.format.proofs.At.{delimited-got, sequence-at, Wronged, here, later, wronged, cut-reads}
+use Rattle.format.proofs.Open.{delimited-open}
 use Rattle.format.proofs.Ends.{optional-begun, optional-other, optional-short, optional-empty, oneOrMore, one-or-more}
 use Rattle.charset.specs.declared.Charset.{Charset}
 use Rattle.charset.specs.Tokens.{Tokens, tokens}
@@ -104,7 +105,7 @@ module _ (set : Charset) (s : List ℕ) where
     prefix-at =
         sequence-at (t .unit) (t .marker 0 0) (λ a. prefixSymbols t) marker-d s 0
         ∙ ap (λ l. thenLocated l λ a i. onFound (λ l. (a, l)) (locate (prefixSymbols t) s i)) marker-there
-        ∙ ap (onFound (λ l. (a, l))) (one-or-more (t .unit) pre (symbol-fixed t (lawful set) .delimited) s w prefix-room)
+        ∙ ap (onFound (λ l. (a, l))) (one-or-more (t .unit) pre (delimited-open (t .unit) pre (symbol-fixed t (lawful set) .delimited)) s w prefix-room)
 
     -- what follows from what zero or more symbols find
     abbrev after : Located (List ℕ) → Located Pre

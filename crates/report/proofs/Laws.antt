@@ -12,6 +12,7 @@ use Rattle.format.specs.Format.{choose}
 use Rattle.charset.specs.declared.Charset.the-variants.{Fsw}
 use Rattle.token.specs.Refusal.{tooMany}
 use Rattle.token.specs.Result.{refusal, done}
+use Rattle.querygrammar.specs.declared.Edition.the-variants.{First}
 use Rattle.query.proofs.Answers.{query-counted}
 use Rattle.lines.specs.Lines.{lines}
 use Rattle.narrowing.specs.Narrowing.{narrowing, answerOf, listAfter}
@@ -60,6 +61,6 @@ enough input = go (leb (length input) 50178) refl
 pub search-laws : SearchLaws
 search-laws = record {
   found = λ query dict q w e f. text-is query dict w e ∙ rw f (found-text _ _ _);
-  refused = λ query dict number place w e f. text-is query dict w e ∙ rw f (refused-is _ _ _ _ (query-counted query number place f));
+  refused = λ query dict number place w e f. text-is query dict w e ∙ rw f (refused-is _ _ _ _ (query-counted First query number place f));
   enough = enough;
 }

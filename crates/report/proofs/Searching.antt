@@ -11,6 +11,7 @@ use lib.Seq.{take-append-seam}
 use Rattle.format.specs.Format.{keep}
 use Rattle.charset.specs.declared.Charset.the-variants.{Fsw}
 use Rattle.token.specs.Result.{Result, refusal, done, onDone, inRoom, output}
+use Rattle.querygrammar.specs.declared.Edition.the-variants.{First}
 use Rattle.lines.specs.Lines.{lines}
 use Rattle.narrowing.specs.declared.Narrowed.{Narrowed}
 use Rattle.narrowing.specs.Narrowing.{rising, narrowing, answerOf, listAfter, filled}
@@ -80,19 +81,19 @@ kept-most k (done test) = keep-length test k
 
 module _ (query dict : List ℕ) (s : Sound (bookOf (Fsw, dict))) where
   abbrev pub keptOf : Result (List ℕ)
-  keptOf = onDone (λ test. keep test (entriesOf dict)) (testOf Fsw dict query)
+  keptOf = onDone (λ test. keep test (entriesOf dict)) (testOf Fsw dict (First, query))
 
   pub narrowed-is : (rest : List ℕ)
-      → narrowed Fsw dict (entriesOf dict ++ rest) (length (entriesOf dict)) query ≡ narrowing (entriesOf dict ++ rest) (length (entriesOf dict)) keptOf
+      → narrowed Fsw dict (entriesOf dict ++ rest) (length (entriesOf dict)) (First, query) ≡ narrowing (entriesOf dict ++ rest) (length (entriesOf dict)) keptOf
   unfolding narrowed
-  narrowed-is rest = plain-step rising (bookOf (Fsw, dict)) (entriesOf dict) rest (sound-good (bookOf (Fsw, dict)) s) (testOf Fsw dict query)
+  narrowed-is rest = plain-step rising (bookOf (Fsw, dict)) (entriesOf dict) rest (sound-good (bookOf (Fsw, dict)) s) (testOf Fsw dict (First, query))
 
   pub opened-text : (list : List ℕ)
       → openedText query dict (opening Fsw dict) ≡ narrowedText (length (entriesOf dict)) (narrowing list (length (entriesOf dict)) keptOf)
   unfolding openedText
   opened-text list =
       rw (opening-is Fsw dict s)
-      (ap (λ l. narrowedText (length (entriesOf dict)) (narrowed Fsw dict l (length (entriesOf dict)) query)) (sym (append-nil (entriesOf dict)))
+      (ap (λ l. narrowedText (length (entriesOf dict)) (narrowed Fsw dict l (length (entriesOf dict)) (First, query))) (sym (append-nil (entriesOf dict)))
       ∙ ap (narrowedText (length (entriesOf dict))) (narrowed-is [])
       ∙ kept-text _ _ _ _)
 
@@ -134,7 +135,7 @@ module _ (query dict : List ℕ) where
         unfolding opened
         told = ap (λ a. a .lines) f ∙ rw (from .1)
 
-        module _ (l : List ℕ) (k : l ≡ output list (opening Fsw dict)) (r : Narrowed) (after : List ℕ) (g : (r, after) ≡ narrowed Fsw dict l (o .lines) query) where
+        module _ (l : List ℕ) (k : l ≡ output list (opening Fsw dict)) (r : Narrowed) (after : List ℕ) (g : (r, after) ≡ narrowed Fsw dict l (o .lines) (First, query)) where
           abbrev memory : List ℕ
           memory = entriesOf dict ++ drop (length (entriesOf dict)) list
 
@@ -143,7 +144,7 @@ module _ (query dict : List ℕ) where
           ended = g ∙ rw (k, from .1, told) (narrowed-is query dict (from .0) (drop (length (entriesOf dict)) list))
 
           kept-few : r .kept ≤ length (entriesOf dict)
-          kept-few = rw (ap (λ p. p .0 .kept) ended) (kept-most (entriesOf dict) (testOf Fsw dict query))
+          kept-few = rw (ap (λ p. p .0 .kept) ended) (kept-most (entriesOf dict) (testOf Fsw dict (First, query)))
 
           pub counts : (o .lines ≤ 1024) × (r .kept ≤ 1024)
           counts = (omega (arith, told, upTo-length (length (lines dict)), few-lines), omega (arith, kept-few, upTo-length (length (lines dict)), few-lines))

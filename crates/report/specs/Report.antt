@@ -10,6 +10,7 @@ use Rattle.charset.specs.Bytes.{ascii}
 use Rattle.charset.specs.declared.Charset.the-variants.{Fsw}
 use Rattle.token.specs.Refusal.{tooMany}
 use Rattle.token.specs.Result.{Result, refusal, done}
+use Rattle.querygrammar.specs.declared.Edition.the-variants.{First}
 use Rattle.lines.specs.Lines.{lines, firstLine}
 use Rattle.narrowing.specs.declared.Narrowed.{Narrowed}
 use Rattle.dictionary.specs.Opening.{opening}
@@ -40,10 +41,10 @@ unfoldable pub narrowedText : ℕ → Narrowed × List ℕ → List ℕ
 narrowedText n (answer, list) =
     choose (eqb (answer .number) 0) (foundText n (take (answer .kept) list)) (refusalText (answer .number) (answer .place))
 
--- what opening came to: its refusal, or the list to narrow
+-- what opening came to: its refusal, or the list to narrow, by a query of the first edition
 unfoldable pub openedText : List ℕ → List ℕ → Result (List ℕ) → List ℕ
 openedText query dict (refusal number place) = refusalText number place
-openedText query dict (done list) = narrowedText (length list) (narrowed Fsw dict list (length list) query)
+openedText query dict (done list) = narrowedText (length list) (narrowed Fsw dict list (length list) (First, query))
 
 -- 14 before all else, then opening's refusals, then narrowing's
 unfoldable pub searchText : List ℕ → List ℕ → List ℕ

@@ -7,6 +7,7 @@ use lib.ListN.{length, take}
 use Rattle.format.specs.Format.{keep}
 use Rattle.charset.specs.declared.Charset.the-variants.{Fsw}
 use Rattle.token.specs.Result.{refusal, done}
+use Rattle.querygrammar.specs.declared.Edition.the-variants.{First}
 use Rattle.querygrammar.specs.Query.{Query}
 use Rattle.query.specs.Reading.{queryOf}
 use Rattle.lines.specs.Lines.{lines}
@@ -17,10 +18,10 @@ use Rattle.report.specs.Report.{within, refusalText, foundText, searchTe
 
 pub record SearchLaws : Type 0 where
   -- a query that is accepted finds the entries whose signs meet it
-  pub found : (query dict : List ℕ) (q : Query) → within query dict ≡ true → opening Fsw dict ≡ done (entriesOf dict) → queryOf query ≡ done q
+  pub found : (query dict : List ℕ) (q : Query) → within query dict ≡ true → opening Fsw dict ≡ done (entriesOf dict) → queryOf First query ≡ done q
       → searchText query dict ≡ foundText (length (lines dict)) (keep (meets Fsw dict q) (entriesOf dict))
   -- a query that is refused gives its own refusal, and there is no other
-  pub refused : (query dict : List ℕ) (number place : ℕ) → within query dict ≡ true → opening Fsw dict ≡ done (entriesOf dict) → queryOf query ≡ refusal number place
+  pub refused : (query dict : List ℕ) (number place : ℕ) → within query dict ≡ true → opening Fsw dict ≡ done (entriesOf dict) → queryOf First query ≡ refusal number place
       → searchText query dict ≡ refusalText number place
   -- the first 50,178 bytes of any input are answered as all of it: one more than the largest that is within the sizes
   pub enough : (input : List ℕ) → outputOf (take 50178 input) ≡ outputOf input

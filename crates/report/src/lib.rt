@@ -10,6 +10,7 @@ use keylines::line::put_entries;
 use keylines::line::put_line;
 use lines::walk::count;
 use lines::walk::line_end;
+use querygrammar::Edition;
 use token::refusal::DONE;
 use token::refusal::TOO_MANY;
 
@@ -66,7 +67,15 @@ fn search(query: &[u8], dict: &[u8], list: &mut [u16], flags: &mut [u8], out: &m
     if unopened != DONE {
         return put_refusal(out, unopened, opened.place);
     }
-    let narrowed = dictionary::lent::narrow_with(Charset::Fsw, dict, list, lines, query, flags);
+    let narrowed = dictionary::lent::narrow_with(
+        Charset::Fsw,
+        dict,
+        list,
+        lines,
+        Edition::First,
+        query,
+        flags,
+    );
     let kept = narrowed.kept;
     let refused = narrowed.number;
     if refused != DONE {

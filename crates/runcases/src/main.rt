@@ -1,5 +1,5 @@
 // Runs of narrowing calls over small dictionaries. After each run it writes what was answered and the list memory, seven places that
-// held 9 before. The file stdout is written from document 01, "The dictionary and its list".
+// held 9 before. The file stdout is written from document 01, "The dictionary and its list", and document 02, Q-9.
 use charset::Charset;
 use libc::STDOUT_FILENO;
 use runs::run_queries;
@@ -43,6 +43,31 @@ fn run_five(title: &[u8], queries: &[u8]) {
     );
 }
 
+// U+40001 is S10000. U+461F3 is S20512, and with f and r after it S205 in any fill and rotation.
+fn run_editions() {
+    run_five(b"- alternatives\n", b"FQS10000oS20500\n");
+    run_five(
+        b"- the same bytes in the first edition\n",
+        b"QS10000oS20500\n",
+    );
+    run_five(
+        b"- both editions, the second in FSW and in SWU\n",
+        b"QS20500\nFQS10000oS20500\nSQ\xf1\x80\x80\x81\n",
+    );
+    run_five(
+        b"- the same the other way round\n",
+        b"SQ\xf1\x80\x80\x81\nFQS10000oS20500\nQS20500\n",
+    );
+    run_five(
+        b"- nine alternatives, and queries in the other set\n",
+        b"SQ\xf1\x86\x87\xb3fr\nFQS10000oS10000oS10000oS10000oS10000oS10000oS10000oS10000oS10000\nFQ\xf1\x80\x80\x81\nSQS10000\n",
+    );
+    run_five(
+        b"- the same the other way round\n",
+        b"SQS10000\nFQ\xf1\x80\x80\x81\nFQS10000oS10000oS10000oS10000oS10000oS10000oS10000oS10000oS10000\nSQ\xf1\x86\x87\xb3fr\n",
+    );
+}
+
 fn main() {
     run_five(b"- no query\n", b"");
     run_five(b"- one query\n", b"QS20500\n");
@@ -66,4 +91,5 @@ fn main() {
         b"M500x500\nM500x500\nM500x500\nM500x500\nM500x500\nM500x500\nM500x500\nM500x500\n",
         b"Q\n",
     );
+    run_editions();
 }

@@ -1,7 +1,7 @@
 -- From what opening and the run answer to the claim: one law for each return.
 use Prim.Native.Nat.{ℕ, _-_, _≤_}
 use mathlib.Core.Path.{_≡_, sym, ap, _∙_}
-use mathlib.Core.List.{List}
+use mathlib.Core.List.{List, map}
 use mathlib.Core.Bool.{Bool, true, false, not}
 use native.Mathlib.Omega.{arith}
 use borrow.Author.Tests.{leb-true, not-true, not-false}
@@ -9,6 +9,7 @@ use lib.ListN.{length}
 use Rattle.charset.specs.declared.Charset.{Charset}
 use Rattle.token.specs.Result.{Result, refusal, done, inRoom, leftAs, output}
 use Rattle.lines.specs.Lines.{lines, ended}
+use Rattle.query.specs.Reading.{Asked}
 use Rattle.narrowing.specs.declared.Narrowed.{Narrowed}
 use Rattle.narrowing.specs.Narrowing.{notNarrowed}
 use Rattle.narrowing.specs.Run.{Ended, run, total}
@@ -18,9 +19,12 @@ use Rattle.dictionary.specs.Narrowing.{narrowed}
 use Rattle.runs.specs.Demand3.{Opens, runOn, meeting}
 use Rattle.dictionary.proofs.Openings.{opened-from}
 use Rattle.runs.proofs.Demand3.{demand3}
-use Rattle.runs.specs.Runs.{endedAs, ranAs, ranOn}
+use Rattle.runs.specs.Runs.{asking, endedAs, ranAs, ranOn}
 
 module _ (set : Charset) (dict list queries : List ℕ) (b : Bool) (t : b ≡ ended queries) where
+  abbrev asked : List Asked
+  asked = map asking (lines queries)
+
   pub unended : not b ≡ true → (r : Narrowed) → r ≡ notNarrowed 2 (length queries) → (r, list) ≡ ranOn set dict list queries
   unfolding ranOn
   unended k r e = let f : ended queries ≡ false = sym t ∙ not-true b k in rw (e, f)
@@ -33,7 +37,7 @@ module _ (set : Charset) (dict list queries : List ℕ) (b : Bool) (t : b ≡ en
     unfolding ranOn opened output
     not-opened z r f = rw whole (go (inRoom (length list) (opening set dict)) e m)
       where
-        go : (x : Result (List ℕ)) → o ≡ openedAs x → after ≡ leftAs list x → (r, after) ≡ ranAs set dict list (lines queries) x
+        go : (x : Result (List ℕ)) → o ≡ openedAs x → after ≡ leftAs list x → (r, after) ≡ ranAs set dict list asked x
         go (refusal number place) p q = rw (f, p, q)
         go (done entries) p q = absurd (z (ap (λ o. o .number) p))
 
@@ -42,21 +46,21 @@ module _ (set : Charset) (dict list queries : List ℕ) (b : Bool) (t : b ≡ en
       opens = ap (λ o. o .number) (sym e) ∙ z
 
       ran : Ended
-      ran = run (narrowed set dict) (lines queries) after (o .lines)
+      ran = run (narrowed set dict) asked after (o .lines)
 
-      same : ran ≡ runOn set dict list (lines queries)
+      same : ran ≡ runOn set dict list asked
       unfolding ran
       same = rw (m, e)
 
-      sum : total (ran .answers) ≡ length (lines dict) - length (meeting set dict (lines queries))
-      sum = ap (λ r. total (r .answers)) same ∙ omega (arith, demand3 .adding set dict list opens (lines queries))
+      sum : total (ran .answers) ≡ length (lines dict) - length (meeting set dict asked)
+      sum = ap (λ r. total (r .answers)) same ∙ omega (arith, demand3 .adding set dict list opens asked)
 
-      pub within : total (run (narrowed set dict) (lines queries) after (o .lines) .answers) ≤ 65535
+      pub within : total (run (narrowed set dict) asked after (o .lines) .answers) ≤ 65535
       unfolding ran
       within = omega (arith, sum, leb-true (length (lines dict)) 65535 (opened-from set dict list opens .0 .few))
 
-      pub ended-so : (r : Narrowed) (last : List ℕ) → (r, last) ≡ endedAs (run (narrowed set dict) (lines queries) after (o .lines)) → (r, last) ≡ ranOn set dict list queries
+      pub ended-so : (r : Narrowed) (last : List ℕ) → (r, last) ≡ endedAs (run (narrowed set dict) asked after (o .lines)) → (r, last) ≡ ranOn set dict list queries
       unfolding ranOn endedAs ran
       ended-so r last f =
           rw (whole, opened-from set dict list opens .1)
-          (f ∙ rw (ap (λ r. r .count) same, demand3 .counting set dict list opens (lines queries), sum, ap (λ r. r .list) same, demand3 .ending set dict list opens (lines queries)))
+          (f ∙ rw (ap (λ r. r .count) same, demand3 .counting set dict list opens asked, sum, ap (λ r. r .list) same, demand3 .ending set dict list opens asked))

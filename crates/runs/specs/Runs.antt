@@ -1,17 +1,28 @@
 -- A whole run, with the queries as lines of bytes: demand 3 in one equation, from the dictionary and the queries alone.
 use Prim.Native.Nat.{ℕ, _-_}
-use mathlib.Core.List.{List}
+use Prim.Native.Char.{code}
+use mathlib.Core.List.{List, [], _∷_, map}
+use lib.Dec.{eqb}
 use lib.ListN.{length, drop}
 use Rattle.format.specs.Format.{choose}
 use Rattle.charset.specs.declared.Charset.{Charset}
+use Rattle.charset.specs.declared.Charset.the-variants.{Fsw, Swu}
 use Rattle.token.specs.Refusal.{textShort}
 use Rattle.token.specs.Result.{Result, refusal, done, inRoom}
+use Rattle.querygrammar.specs.declared.Edition.the-variants.{First, Second}
+use Rattle.query.specs.Reading.{Asked}
 use Rattle.lines.specs.Lines.{lines, ended}
 use Rattle.narrowing.specs.declared.Narrowed.{Narrowed}
 use Rattle.narrowing.specs.Narrowing.{notNarrowed, filled}
 use Rattle.narrowing.specs.Run.{Ended, total}
 use Rattle.dictionary.specs.Opening.{opening}
 use Rattle.runs.specs.Demand3.{meeting}
+
+-- The query of a line: after F or S it is of the second edition, in FSW or in SWU. Any other line is a query of the first, all of it:
+-- each begins with Q.
+unfoldable pub asking : List ℕ → Asked
+asking [] = (First, [])
+asking (b ∷ line) = choose (eqb b (code "F")) (Second Fsw, line) (choose (eqb b (code "S")) (Second Swu, line) (First, b ∷ line))
 
 -- how a run is answered: the entries left and all the dropped counts, and the list memory
 unfoldable pub endedAs : Ended → Narrowed × List ℕ
@@ -21,10 +32,10 @@ endedAs r = (record { number = 0; place = 0; kept = r .count; dropped = total (r
 abbrev pub leaving : List ℕ → ℕ → List ℕ → Narrowed × List ℕ
 leaving list n left = (record { number = 0; place = 0; kept = length left; dropped = n - length left }, filled n left (drop n list))
 
-abbrev pub ranAs : Charset → List ℕ → List ℕ → List (List ℕ) → Result (List ℕ) → Narrowed × List ℕ
+abbrev pub ranAs : Charset → List ℕ → List ℕ → List Asked → Result (List ℕ) → Narrowed × List ℕ
 ranAs set dict list queries (refusal number place) = (notNarrowed number place, list)
 ranAs set dict list queries (done entries) = leaving list (length (lines dict)) (meeting set dict queries)
 
 unfoldable pub ranOn : Charset → List ℕ → List ℕ → List ℕ → Narrowed × List ℕ
 ranOn set dict list queries =
-    choose (ended queries) (ranAs set dict list (lines queries) (inRoom (length list) (opening set dict))) (notNarrowed textShort (length queries), list)
+    choose (ended queries) (ranAs set dict list (map asking (lines queries)) (inRoom (length list) (opening set dict))) (notNarrowed textShort (length queries), list)

@@ -1,10 +1,11 @@
 // A whole run of narrowing calls as one function, so that demand 3 can be read on code that runs.
 ghost use mathlib.Core.Path.{_≡_};
+ghost use mathlib.Core.List.{map};
 ghost use Prim.Native.Nat.{_≤_};
 ghost use Rattle.lines.specs.Lines.{lines};
 ghost use Rattle.narrowing.specs.Run.{nextCount, run, total};
 ghost use Rattle.dictionary.specs.Narrowing.{narrowed};
-ghost use Rattle.runs.specs.Runs.{endedAs, ranOn};
+ghost use Rattle.runs.specs.Runs.{asking, endedAs, ranOn};
 use charset::Charset;
 use dictionary::narrow;
 use lines::walk::count;
@@ -12,6 +13,7 @@ use lines::walk::is_ended;
 use lines::walk::line_end;
 use narrowing::Narrowed;
 use narrowing::not_narrowed;
+use querygrammar::Edition;
 use token::refusal::DONE;
 use token::refusal::TEXT_SHORT;
 
@@ -26,10 +28,34 @@ fn next_count(n: usize, answer: Narrowed) -> usize
     n
 }
 
-// Narrows by each line of queries in order.
+// The edition of a line's query: its first byte names it.
+fn edition_of(line: &[u8]) -> Edition
+    ensures { λ r. ⌜ r ≡ asking (now (line .entry)) .0 ⌝ }
+{
+    if line.len() == 0 {
+        return Edition::First;
+    }
+    match line[0] {
+        b'F' => Edition::Second(Charset::Fsw),
+        b'S' => Edition::Second(Charset::Swu),
+        _ => Edition::First,
+    }
+}
+
+// The query of a line, as the part of it where it lies.
+fn query_of(line: &[u8]) -> &[u8]
+    ensures { λ r. ⌜ now r ≡ asking (now (line .entry)) .1 ⌝ }
+{
+    match edition_of(line) {
+        Edition::First => line,
+        Edition::Second(_) => &line[1..],
+    }
+}
+
+// Narrows by the query of each line in order.
 fn narrow_each(set: Charset, dict: &[u8], list: &mut [u16], n: usize, queries: &[u8]) -> Narrowed
-    requires { ⌜ total (run (narrowed set (now dict)) (lines (now queries)) (now list) n .answers) ≤ 65535 ⌝ }
-    ensures { λ r. ⌜ (r, now (list .exit)) ≡ endedAs (run (narrowed set (now (dict .entry))) (lines (now (queries .entry))) (now (list .entry)) n) ⌝ }
+    requires { ⌜ total (run (narrowed set (now dict)) (map asking (lines (now queries))) (now list) n .answers) ≤ 65535 ⌝ }
+    ensures { λ r. ⌜ (r, now (list .exit)) ≡ endedAs (run (narrowed set (now (dict .entry))) (map asking (lines (now (queries .entry)))) (now (list .entry)) n) ⌝ }
 {
     let calls = count(queries);
     let mut kept = n;
@@ -38,7 +64,9 @@ fn narrow_each(set: Charset, dict: &[u8], list: &mut [u16], n: usize, queries: &
     let mut made: usize = 0;
     while made < calls {
         let end = line_end(queries, start);
-        let answer = narrow(set, dict, list, kept, &queries[start..end]);
+        let line = &queries[start..end];
+        let edition = edition_of(line);
+        let answer = narrow(set, dict, list, kept, edition, query_of(line));
         let lost = answer.dropped;
         dropped += lost;
         kept = next_count(kept, answer);
@@ -53,8 +81,9 @@ fn narrow_each(set: Charset, dict: &[u8], list: &mut [u16], n: usize, queries: &
     }
 }
 
-// Opens a dictionary and narrows by each line of queries in order. Answers opening's refusal, or how many entries are left and
-// how many were dropped in all. Queries that do not end in byte 10 are refused first, as 2 at their length: no query is cut short.
+// Opens a dictionary and narrows by the query of each line in order: of the second edition in FSW or in SWU after F or S, otherwise of
+// the first. Answers opening's refusal, or how many entries are left and how many were dropped in all. Queries that do not end in
+// byte 10 are refused first, as 2 at their length: no query is cut short.
 pub fn run_queries(set: Charset, dict: &[u8], list: &mut [u16], queries: &[u8]) -> Narrowed
     ensures { λ r. ⌜ (r, now (list .exit)) ≡ ranOn set (now (dict .entry)) (now (list .entry)) (now (queries .entry)) ⌝ }
 {

@@ -16,15 +16,15 @@ use Rattle.stylinggrammar.specs.Styled.{dashAt, readBoth}
 use Rattle.styling.specs.Reading.{styledOf}
 use Rattle.styling.specs.Transcription.{styledTranscription}
 use Rattle.query.specs.Reading.{queryOf}
-use Rattle.matching.specs.Meets.{satisfies, prefixHolds, serves, judged, witnessesOf, verdictOf}
+use Rattle.matching.specs.Meets.{satisfies, satisfiesOne, prefixHolds, serves, judged, witnessesOf, verdictOf}
 use Rattle.verdict.specs.Verdict.{verdictOn, verdictIn}
 use Rattle.bounds.specs.Boxes.{grownAll, groupsOf}
 use Rattle.bounds.specs.Sizes.{firstUnsized, measured}
 use Rattle.moving.specs.Moves.{movedSign, centredSign, centredText}
-use Rattle.starred.specs.Starred.{StarredRows, OtherRows, NumberRows, CentringRows, OffsetRows, StylingRows}
+use Rattle.starred.specs.Starred.{StarredRows, OtherRows, NumberRows, CentringRows, OffsetRows, StylingRows, EditionRows}
 
 pub starred : StarredRows
-unfolding codeRead codeText digitOf markerOf signOf queryOf verdictIn verdictOn verdictOf prefixHolds satisfies judged witnessesOf serves centredText centredSign measured firstUnsized groupsOf keep grownAll movedSign
+unfolding codeRead codeText digitOf markerOf signOf queryOf verdictIn verdictOn verdictOf prefixHolds satisfies satisfiesOne judged witnessesOf serves centredText centredSign measured firstUnsized groupsOf keep grownAll movedSign
 starred = record {
   S10019 = refl;
   S2ea04 = refl;
@@ -42,7 +42,7 @@ starred = record {
 }
 
 pub others : OtherRows
-unfolding codeRead digitOf markerOf signOf queryOf verdictIn verdictOn verdictOf prefixHolds satisfies judged witnessesOf serves
+unfolding codeRead digitOf markerOf signOf queryOf verdictIn verdictOn verdictOf prefixHolds satisfies satisfiesOne judged witnessesOf serves
 others = record {
   S38c00 = refl;
   U1D803 = refl;
@@ -130,4 +130,64 @@ stylings = record {
   plain = refl;
   plainInGroup = refl;
   plainInLess = refl;
+}
+
+pub editions : EditionRows
+unfolding digitOf markerOf scalarOf signOf queryOf verdictIn verdictOn verdictOf prefixHolds satisfies satisfiesOne judged witnessesOf serves
+editions = record {
+  QS10000oS20500500x500 = refl;
+  QS10000500x500oS20500 = refl;
+  QS10000o = refl;
+  QAS00000T = refl;
+  QS00000 = refl;
+  QAS00000oS10000T = refl;
+  QAS0000uT = refl;
+  QAR000t100T = refl;
+  QS10000oS20500750x500 = refl;
+  QS10000oR204t100 = refl;
+  QV1234 = refl;
+  dash = refl;
+  nine = refl;
+  nineInPrefix = refl;
+  nineBeforeRange = refl;
+  prefixBeforeNine = refl;
+  signboxBeforeNine = refl;
+  firstJoined = refl;
+  firstNull = refl;
+  beyond = refl;
+  cut = refl;
+  marksCrossed = refl;
+  numberBeyond = refl;
+  oneNumber = refl;
+  nullInSignbox = refl;
+  nullMarked = refl;
+  nullInRange = refl;
+  marked = refl;
+  nullAndRange = refl;
+  reversed = refl;
+  keyInSwu = refl;
+  characterInFsw = refl;
+  mixed = refl;
+  QS37e00oS20500 = refl;
+  QS20500oS10000 = refl;
+  QS37e00oS37d00 = refl;
+  QS10000oS20500500x495V10 = refl;
+  QS10000oS20500500x495V9 = refl;
+  QS10000oS20500500x505V9 = refl;
+  eight = refl;
+  nullSought = refl;
+  nullOrOther = refl;
+  otherOrNull = refl;
+  noNull = refl;
+  nullInNoRange = refl;
+  fswOfSwu = refl;
+  swuOfFsw = refl;
+  swuOfSwu = refl;
+  ownFill = refl;
+  anyFill = refl;
+  ownRotation = refl;
+  anyRotation = refl;
+  bases = refl;
+  nearInSwu = refl;
+  farInSwu = refl;
 }

@@ -13,6 +13,7 @@ use Rattle.format.specs.Located.{Located, found, wrongAt, shortHere, locate, an
 use Rattle.format.proofs.Lists.{all-append}
 use Rattle.format.proofs.Loop.{Walk, walk-start, walk-on, walk-stop, walk-end}
 use Rattle.format.proofs.Ends.{oneOrMore, one-or-more}
+use Rattle.format.proofs.Open.{delimited-open}
 use Rattle.charset.specs.Bytes.{digitOf, digitByte, digit, after}
 use Rattle.token.specs.Refusal.{textWrong, textShort}
 use Rattle.token.specs.Token.{tokenAt}
@@ -191,7 +192,7 @@ module _ (decimals : Bool) (s : List ℕ) (at i v : ℕ) (k : FiguresInv decimal
   figures-as e r q =
       rw q (record {
         part = part-as figures (takeFigures decimals) s at (oneOrMore (length s) (found (k .read) i)) (figuresPart s at i v decimals) [] []
-            (one-or-more 1 (digit 0 9) figure-delimited s at start ∙ ap (oneOrMore (length s)) e) (end-go (k .read) (k .offset) (k .amount));
+            (one-or-more 1 (digit 0 9) (delimited-open 1 (digit 0 9) figure-delimited) s at start ∙ ap (oneOrMore (length s)) e) (end-go (k .read) (k .offset) (k .amount));
         small = small-go (ltb at i);
       })
 

@@ -20,7 +20,7 @@ use Rattle.token.proofs.reading.Token.{the-type}
 abbrev pub Fails : Token → Type 0
 Fails t = OneOf (1 ∷ 2 ∷ []) (tagOf the-type t)
 
-value-fails : {X : Type 0} (v : ℕ) → Fails (Value v) → X
+pub value-fails : {X : Type 0} (v : ℕ) → Fails (Value v) → X
 value-fails v (inl e) = let z : _≡_ {A = ℕ} 0 1 = cc in absurd (omega arith)
 value-fails v (inr e) = let z : _≡_ {A = ℕ} 0 2 = cc in absurd (omega arith)
 

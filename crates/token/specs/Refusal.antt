@@ -58,3 +58,7 @@ colourLong = 18
 
 abbrev pub stylesLong : ℕ
 stylesLong = 19
+
+-- more than eight alternatives in an item of a query
+abbrev pub alternativesLong : ℕ
+alternativesLong = 22

@@ -75,7 +75,7 @@ pub fn digit_at(s: &[u8], at: usize, lo: u16, hi: u16) -> Token
 }
 
 // What is left of a after b, and 0 where b is more.
-fn less(a: u16, b: u16) -> u16
+pub fn less(a: u16, b: u16) -> u16
     ensures { λ r. ⌜ r ≡ a - b ⌝ }
 {
     if a < b {
@@ -158,7 +158,7 @@ fn key_at(s: &[u8], at: usize, top: u16) -> Token
 }
 
 // What follows the S of the null symbol.
-fn null_at(s: &[u8], at: usize) -> Token
+pub fn null_at(s: &[u8], at: usize) -> Token
     requires { ⌜ at + 32 ≤ 2 ^ 64 ⌝ }
     ensures { λ r. ⌜ r ≡ tokenAt null (now (s .entry)) at ⌝ }
 {

@@ -40,3 +40,5 @@ pub const ZOOM_OUTSIDE: u8 = 17;
 pub const COLOUR_LONG: u8 = 18;
 
 pub const STYLES_LONG: u8 = 19;
+// an item of a query has more than eight alternatives
+pub const ALTERNATIVES_LONG: u8 = 22;

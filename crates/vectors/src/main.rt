@@ -7,6 +7,7 @@ ghost use lib.ListN.{length};
 use charset::Charset;
 use libc::STDIN_FILENO;
 use libc::STDOUT_FILENO;
+use querygrammar::Edition;
 
 // The first place of a byte from a place on, or the length.
 fn find(text: &[u8], from: usize, byte: u8) -> usize
@@ -109,8 +110,8 @@ fn styled_transcription(set: Charset, text: &[u8]) {
     put_text(styling::transcribe_styled(set, text, &mut out), &out);
 }
 
-fn query_in(text: &[u8]) {
-    let r = query::read(text);
+fn query_in(edition: Edition, text: &[u8]) {
+    let r = query::read(edition, text);
     put(r.number as u64);
     put(r.place as u64);
 }
@@ -121,12 +122,12 @@ fn transcription(set: Charset, text: &[u8]) {
 }
 
 // A query, a space and an FSW sign: 1 if it meets the query, the unmet condition, the symbols of the first two items.
-fn verdict_on(text: &[u8]) {
+fn verdict_on(edition: Edition, text: &[u8]) {
     let end = find(text, 0, b' ');
     if end == text.len() {
         return;
     }
-    let v = verdict::verdict(Charset::Fsw, &text[0..end], &text[end + 1..]);
+    let v = verdict::verdict(Charset::Fsw, edition, &text[0..end], &text[end + 1..]);
     let witnesses = v.witnesses;
     let first = witnesses[0] as u64;
     let second = witnesses[1] as u64;
@@ -163,7 +164,8 @@ fn centring(text: &[u8]) {
 
 // k: a key's code; c: its character; f and s: an FSW and an SWU sign; o and p: where the symbols of an FSW and of an SWU sign
 // stand; t and b: transcribed from FSW, and back from SWU; y and z: an FSW and an SWU sign with its styling; x and d: such a sign
-// transcribed from FSW, and back from SWU; w: a styling that is spoilt and written; q: a query; v: a verdict; m: a sign moved to the middle.
+// transcribed from FSW, and back from SWU; w: a styling that is spoilt and written; q: a query of the first edition; r and u: one of
+// the second in FSW and in SWU; v, g and h: the verdict of a query that q, r and u read; m: a sign moved to the middle.
 fn answer(kind: u8, text: &[u8]) {
     match kind {
         b'k' => key(text),
@@ -179,8 +181,12 @@ fn answer(kind: u8, text: &[u8]) {
         b'x' => styled_transcription(Charset::Fsw, text),
         b'd' => styled_transcription(Charset::Swu, text),
         b'w' => spoilt(text),
-        b'q' => query_in(text),
-        b'v' => verdict_on(text),
+        b'q' => query_in(Edition::First, text),
+        b'r' => query_in(Edition::Second(Charset::Fsw), text),
+        b'u' => query_in(Edition::Second(Charset::Swu), text),
+        b'v' => verdict_on(Edition::First, text),
+        b'g' => verdict_on(Edition::Second(Charset::Fsw), text),
+        b'h' => verdict_on(Edition::Second(Charset::Swu), text),
         b'm' => centring(text),
         _ => put(999),
     }
@@ -205,7 +211,7 @@ fn row(text: &[u8]) {
 }
 
 fn main() {
-    let mut input = [0u8; 8192];
+    let mut input = [0u8; 12288];
     let n = io::read_full(STDIN_FILENO, &mut input);
     rows(&input[..n]);
 }

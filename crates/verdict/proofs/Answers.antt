@@ -14,6 +14,7 @@ use Rattle.reader.specs.Inner.{ReadInto as SignInto}
 use Rattle.reader.proofs.Limits.{Known as SignKnown, not-read as sign-refused, was-read as sign-read, known as sign-known}
 use Rattle.writer.specs.Arrays.{upto, at, symbolAt}
 use Rattle.sign.proofs.Transcribing.{lies}
+use Rattle.querygrammar.specs.declared.Edition.{Edition}
 use Rattle.querygrammar.specs.Query.{Query}
 use Rattle.queryitem.specs.Words.{wordCount, wordsOf}
 use Rattle.query.specs.declared.words.Head.{Head}
@@ -67,42 +68,42 @@ module _ (set : Charset) (text : List ℕ) (h : SignHead) (array codes xs ys : L
 -- THE QUERY IN WORDS
 
 -- a query that was accepted: its words are laid as judging asks, and their verdict is its own
-pub record Held (s words : List ℕ) : Type 0 where
+pub record Held (e : Edition) (s words : List ℕ) : Type 0 where
   pub query : Query
-  pub is : queryOf s ≡ done query
+  pub is : queryOf e s ≡ done query
   pub laid : Laid words
   pub same : (sign : Result Meaning) → verdictOnWords words sign ≡ verdictOn query sign
 
-module _ (s : List ℕ) (h : Head) (words : List ℕ) (v : ReadInto s h words) where
-  verdict-same : (q : Query) → queryOf s ≡ done q → (sign : Result Meaning) → verdictOnWords (padded wordCount (wordsOf q)) sign ≡ verdictOn q sign
+module _ (e : Edition) (s : List ℕ) (h : Head) (words : List ℕ) (v : ReadInto e s h words) where
+  verdict-same : (q : Query) → queryOf e s ≡ done q → (sign : Result Meaning) → verdictOnWords (padded wordCount (wordsOf q)) sign ≡ verdictOn q sign
   unfolding verdictOnWords verdictOn
-  verdict-same q e (refusal n p) = λ i. refusedAs n p
-  verdict-same q e (done m) = let a = query-accepted s q e in ap answered (words-laws .verdict q (a .prefix-most) (a .items-most) (a .valid) m)
+  verdict-same q x (refusal n p) = λ i. refusedAs n p
+  verdict-same q x (done m) = let a = query-accepted e s q x in ap answered (words-laws .verdict q (a .prefix-most) (a .items-most) (a .room) (a .valid) m)
 
-  pub query-held : h .number ≡ 0 → Held s words
-  query-held z = go (known s h words v)
+  pub query-held : h .number ≡ 0 → Held e s words
+  query-held z = go (known e s h words v)
     where
-      go : Known s h words v → Held s words
+      go : Known e s h words v → Held e s words
       go (not-read q n) = absurd (omega arith)
-      go (was-read q e n w) =
-          let a = query-accepted s q e in
+      go (was-read q x n w) =
+          let a = query-accepted e s q x in
           record {
             query = q;
-            is = e;
-            laid = rw w (words-laws .laid q (a .prefix-most) (a .items-most));
-            same = λ sign. ap (λ w. verdictOnWords w sign) w ∙ verdict-same q e sign;
+            is = x;
+            laid = rw w (words-laws .laid q (a .prefix-most) (a .items-most) (a .room));
+            same = λ sign. ap (λ w. verdictOnWords w sign) w ∙ verdict-same q x sign;
           }
 
-  pub verdict-refused : (set : Charset) (text : List ℕ) (r : Verdict) → (h .number ≡ 0 → ⊥) → r ≡ refusedAs (h .number) (h .place) → r ≡ verdictIn set s text
+  pub verdict-refused : (set : Charset) (text : List ℕ) (r : Verdict) → (h .number ≡ 0 → ⊥) → r ≡ refusedAs (h .number) (h .place) → r ≡ verdictIn set (e, s) text
   unfolding verdictIn
-  verdict-refused set text r z e = go (known s h words v)
+  verdict-refused set text r z y = go (known e s h words v)
     where
-      go : Known s h words v → r ≡ verdictBy (queryOf s) (signOf set text)
-      go (not-read q n) = e ∙ ap (λ q. verdictBy q (signOf set text)) (sym q)
+      go : Known e s h words v → r ≡ verdictBy (queryOf e s) (signOf set text)
+      go (not-read q n) = y ∙ ap (λ q. verdictBy q (signOf set text)) (sym q)
       go (was-read q x n w) = absurd (z n)
 
-  pub verdict-judged : (set : Charset) (text : List ℕ) (r : Verdict) → h .number ≡ 0 → r ≡ verdictOnWords words (signOf set text) → r ≡ verdictIn set s text
+  pub verdict-judged : (set : Charset) (text : List ℕ) (r : Verdict) → h .number ≡ 0 → r ≡ verdictOnWords words (signOf set text) → r ≡ verdictIn set (e, s) text
   unfolding verdictIn
-  verdict-judged set text r z e =
+  verdict-judged set text r z y =
       let k = query-held z in
-      e ∙ k .same (signOf set text) ∙ ap (λ q. verdictBy q (signOf set text)) (sym (k .is))
+      y ∙ k .same (signOf set text) ∙ ap (λ q. verdictBy q (signOf set text)) (sym (k .is))

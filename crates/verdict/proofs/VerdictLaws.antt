@@ -5,7 +5,9 @@ use mathlib.Core.List.{List}
 use mathlib.Core.Bool.{true, false}
 use native.Mathlib.Omega.{arith}
 use Rattle.format.specs.Format.{Pairwise}
+use Rattle.format.specs.Places.{Formed}
 use Rattle.charset.specs.declared.Charset.{Charset}
+use Rattle.charset.specs.declared.Charset.the-variants.{Fsw}
 use Rattle.grammar.specs.Sign.{Meaning}
 use Rattle.token.specs.Result.{Result, refusal, done}
 use Rattle.token.specs.Padded.{padded}
@@ -13,9 +15,12 @@ use Rattle.reader.specs.Signs.{signOf}
 use Rattle.reader.proofs.Limits.{sign-counted}
 use Rattle.sign.specs.OffsetLaws.{ReadAlike}
 use Rattle.sign.proofs.OffsetLaws.{one-meaning}
-use Rattle.querygrammar.specs.Query.{Query}
-use Rattle.query.specs.Reading.{queryOf}
+use Rattle.querygrammar.specs.declared.Edition.the-variants.{First as FirstEdition, Second}
+use Rattle.querygrammar.specs.Spelling.{first}
+use Rattle.querygrammar.specs.Query.{Query, query}
+use Rattle.query.specs.Reading.{Asked, queryAsked}
 use Rattle.query.proofs.Answers.{query-counted}
+use Rattle.query.proofs.Editions.{first-in-second}
 use Rattle.matching.specs.Meets.{Serves, Meets, Judgement, unmet, met, verdictOf, isMet, answered}
 use Rattle.matching.specs.MeetsLaws.{First}
 use Rattle.matching.proofs.Deciding.{clash}
@@ -31,7 +36,7 @@ was-met : (j : Judgement) → isMet j ≡ true → (ws : List ℕ) × (j ≡ met
 was-met (unmet n) e = clash e refl
 was-met (met ws) e = (ws, refl)
 
-module _ (set : Charset) (query text : List ℕ) where
+module _ (set : Charset) (query : Asked) (text : List ℕ) where
   on-reads : (q : Query) (m : Meaning) → Reads set query text q m → verdictIn set query text ≡ answered (verdictOf q m)
   unfolding verdictIn verdictOn
   on-reads q m r = λ i. verdictBy (r .asked i) (r .signed i)
@@ -42,10 +47,10 @@ module _ (set : Charset) (query text : List ℕ) where
 
   known : Judged
   unfolding verdictIn verdictOn
-  known = go (queryOf query) (signOf set text) refl refl
+  known = go (queryAsked query) (signOf set text) refl refl
     where
-      go : (a : Result Query) (b : Result Meaning) → queryOf query ≡ a → signOf set text ≡ b → Judged
-      go (refusal n p) b e f = refused (rw e (query-counted query n p e)) (rw e refl)
+      go : (a : Result Query) (b : Result Meaning) → queryAsked query ≡ a → signOf set text ≡ b → Judged
+      go (refusal n p) b e f = refused (rw e (query-counted (query .0) (query .1) n p e)) (rw e refl)
       go (done q) (refusal n p) e f = refused (rw (e, f) (sign-counted set text n p f)) (rw (e, f) refl)
       go (done q) (done m) e f = judged q m (record { asked = e; signed = f })
 
@@ -82,10 +87,14 @@ module _ (set : Charset) (query text : List ℕ) where
       let w = was-met (verdictOf q m) (l .exactly .1 s) in
       (w .0, (ap (λ v. v .witnesses) (on-reads q m r ∙ ap answered (w .1)), l .witnesses (w .0) (w .1)))
 
-alike : (set : Charset) (text : List ℕ) (set₂ : Charset) (text₂ : List ℕ) → ReadAlike set text set₂ text₂ → (query : List ℕ) → verdictIn set query text ≡ verdictIn set₂ query text₂
+alike : (set : Charset) (text : List ℕ) (set₂ : Charset) (text₂ : List ℕ) → ReadAlike set text set₂ text₂ → (query : Asked) → verdictIn set query text ≡ verdictIn set₂ query text₂
 unfolding verdictIn
 alike set text set₂ text₂ a query =
-    let k = one-meaning set text set₂ text₂ a in ap (verdictBy (queryOf query)) (k .1 .0 ∙ sym (k .1 .1))
+    let k = one-meaning set text set₂ text₂ a in ap (verdictBy (queryAsked query)) (k .1 .0 ∙ sym (k .1 .1))
+
+editions : (set : Charset) (asked text : List ℕ) → Formed (query first) asked → verdictIn set (FirstEdition, asked) text ≡ verdictIn set (Second Fsw, asked) text
+unfolding verdictIn
+editions set asked text f = ap (λ q. verdictBy q (signOf set text)) (first-in-second asked f)
 
 pub verdict-laws : VerdictLaws
 verdict-laws = record {
@@ -93,4 +102,5 @@ verdict-laws = record {
   first-unmet = λ set query text n. (unmet-to set query text n, unmet-from set query text n);
   witnesses = witnessed;
   alike = alike;
+  editions = editions;
 }

@@ -5,7 +5,7 @@
 
 use crate::dictionary::Dictionary;
 use halofret::raw;
-use reference::{Charset, Sign, Verdict};
+use reference::{Charset, Edition, Query, Sign, Verdict};
 use std::hint::black_box;
 use std::time::{Duration, Instant};
 
@@ -14,6 +14,21 @@ const LONGEST: usize = 1_033;
 
 /// How long a pass took, and a sum of what it answered.
 pub type Pass = (Duration, u64);
+
+/// A query and its edition.
+#[derive(Clone, Copy)]
+pub struct Asked<'a> {
+    pub edition: Edition,
+    pub query: &'a [u8],
+}
+
+impl Asked<'_> {
+    /// Whether the edition is the second, and whether the query is SWU.
+    fn flags(self) -> (bool, bool) {
+        let second = self.edition != Edition::First;
+        (second, self.edition == Edition::Second(Charset::Swu))
+    }
+}
 
 pub fn timed(work: impl FnOnce() -> u64) -> Pass {
     let start = Instant::now();
@@ -81,15 +96,49 @@ pub fn transcribe_reference(dictionary: &Dictionary, set: Charset) -> Pass {
     })
 }
 
-pub fn verdict_library(dictionary: &Dictionary, set: Charset, query: &[u8]) -> Pass {
+/// One query is read for each line of the dictionary.
+pub fn read_query_library(dictionary: &Dictionary, asked: Asked) -> Pass {
+    let (second, query_swu) = asked.flags();
+    let mut answer = [0; 2];
+    timed(|| {
+        let mut sum = 0;
+        for _ in 0..dictionary.count() {
+            let (query, len) = (black_box(asked.query).as_ptr(), asked.query.len());
+            unsafe { raw::halofret_read_query(second, query_swu, query, len, &mut answer) };
+            black_box(&answer);
+            sum += u64::from(answer == [0, 0]);
+        }
+        sum
+    })
+}
+
+pub fn read_query_reference(dictionary: &Dictionary, asked: Asked) -> Pass {
+    let mut query = Query::EMPTY;
+    timed(|| {
+        let mut sum = 0;
+        for _ in 0..dictionary.count() {
+            let text = black_box(asked.query);
+            let answer = reference::read_query_into(asked.edition, text, &mut query);
+            black_box((&query, &answer));
+            sum += u64::from(answer.is_ok());
+        }
+        sum
+    })
+}
+
+pub fn verdict_library(dictionary: &Dictionary, set: Charset, asked: Asked) -> Pass {
     let swu = set == Charset::Swu;
+    let (second, query_swu) = asked.flags();
     let mut answer = [0; 36];
     timed(|| {
         let mut sum = 0;
         for line in dictionary.lines() {
-            let (query, query_len) = (query.as_ptr(), query.len());
+            let (query, query_len) = (asked.query.as_ptr(), asked.query.len());
             let (text, len) = (line.as_ptr(), line.len());
-            unsafe { raw::halofret_verdict(swu, query, query_len, text, len, &mut answer) };
+            unsafe {
+                let answer = &mut answer;
+                raw::halofret_verdict(swu, second, query_swu, query, query_len, text, len, answer)
+            };
             black_box(&answer);
             sum += answer[2];
         }
@@ -97,11 +146,11 @@ pub fn verdict_library(dictionary: &Dictionary, set: Charset, query: &[u8]) -> P
     })
 }
 
-pub fn verdict_reference(dictionary: &Dictionary, set: Charset, query: &[u8]) -> Pass {
+pub fn verdict_reference(dictionary: &Dictionary, set: Charset, asked: Asked) -> Pass {
     timed(|| {
         let mut sum = 0;
         for line in dictionary.lines() {
-            let answer = reference::verdict(set, query, line);
+            let answer = reference::verdict(set, asked.edition, asked.query, line);
             black_box(&answer);
             sum += u64::from(matches!(answer, Ok(Verdict::Met(_))));
         }
@@ -167,17 +216,18 @@ fn full_list(dictionary: &Dictionary) -> Vec<u16> {
     (1..=dictionary.count() as u16).collect()
 }
 
-pub fn narrow_library(dictionary: &Dictionary, set: Charset, query: &[u8]) -> Pass {
+pub fn narrow_library(dictionary: &Dictionary, set: Charset, asked: Asked) -> Pass {
     let swu = set == Charset::Swu;
+    let (second, query_swu) = asked.flags();
     let (mut list, mut answer) = (full_list(dictionary), [0; 4]);
     timed(|| {
         let (dict, dict_len) = (dictionary.text.as_ptr(), dictionary.text.len());
-        let (query, query_len) = (query.as_ptr(), query.len());
+        let (query, query_len) = (asked.query.as_ptr(), asked.query.len());
         let (room, start) = (list.len(), list.as_mut_ptr());
         unsafe {
             let (n, answer) = (room, &mut answer);
             raw::halofret_narrow(
-                swu, dict, dict_len, start, room, n, query, query_len, answer,
+                swu, dict, dict_len, start, room, n, second, query_swu, query, query_len, answer,
             )
         };
         black_box((&list, &answer));
@@ -185,11 +235,12 @@ pub fn narrow_library(dictionary: &Dictionary, set: Charset, query: &[u8]) -> Pa
     })
 }
 
-pub fn narrow_reference(dictionary: &Dictionary, set: Charset, query: &[u8]) -> Pass {
+pub fn narrow_reference(dictionary: &Dictionary, set: Charset, asked: Asked) -> Pass {
     let mut list = full_list(dictionary);
     timed(|| {
-        let count = list.len();
-        let answer = reference::narrow(set, &dictionary.text, &mut list, count, query);
+        let (text, count) = (&dictionary.text, list.len());
+        let Asked { edition, query } = asked;
+        let answer = reference::narrow(set, text, &mut list, count, edition, query);
         black_box((&list, &answer));
         answer.map_or(0, |narrowed| narrowed.kept as u64)
     })

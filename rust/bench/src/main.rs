@@ -4,12 +4,14 @@
 //! dictionary, and each line of the table has the best pass of many.
 
 mod dictionary;
+mod editions;
 mod entries;
 mod styled;
 
 use dictionary::Dictionary;
+use editions::edition_rows;
 use entries::*;
-use reference::Charset;
+use reference::{Charset, Edition};
 use std::time::{Duration, Instant};
 use styled::*;
 
@@ -53,11 +55,10 @@ fn rows(bench: &Bench, set: Charset) {
         || transcribe_reference(b, set),
     );
     styled_rows(bench, set);
-    let query = VERDICT_QUERY.as_bytes();
     bench.row(
         &format!("verdict by `{VERDICT_QUERY}`"),
-        || verdict_library(b, set, query),
-        || verdict_reference(b, set, query),
+        || verdict_library(b, set, in_first(VERDICT_QUERY)),
+        || verdict_reference(b, set, in_first(VERDICT_QUERY)),
     );
     bench.row(
         "centred",
@@ -68,9 +69,17 @@ fn rows(bench: &Bench, set: Charset) {
     for query in NARROW_QUERIES {
         bench.row(
             &format!("narrow by `{query}`"),
-            || narrow_library(b, set, query.as_bytes()),
-            || narrow_reference(b, set, query.as_bytes()),
+            || narrow_library(b, set, in_first(query)),
+            || narrow_reference(b, set, in_first(query)),
         );
+    }
+    edition_rows(bench, set);
+}
+
+fn in_first(query: &str) -> Asked<'_> {
+    Asked {
+        edition: Edition::First,
+        query: query.as_bytes(),
     }
 }
 

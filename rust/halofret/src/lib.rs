@@ -45,6 +45,33 @@ impl Charset {
     }
 }
 
+/// How a query is written.
+///
+/// A query that is well-formed in the first edition is so in the second as FSW, and says the same.
+#[derive(Clone, Copy, Debug, PartialEq, Eq)]
+pub enum Edition {
+    /// In FSW form, one symbol or range for each item: `QAS100uuTS20500490x485V30`.
+    First,
+    /// In the character set named, which need not be that of the signs. An item may have up to
+    /// eight alternatives, joined by `o`, and takes one coordinate for all of them:
+    /// `QS20500oR100t105490x485`. In the prefix the null symbol may be sought: `QAS00000T`.
+    ///
+    /// In SWU a symbol and a number are the characters that they are in a sign, a range is `R` and
+    /// two symbols of which only the bases count, and all else is ASCII. After a symbol `f` stands
+    /// for any fill and then `r` for any rotation, whatever its own are.
+    Second(Charset),
+}
+
+impl Edition {
+    /// Whether it is the second, and whether the query is SWU.
+    fn flags(self) -> (bool, bool) {
+        match self {
+            Edition::First => (false, false),
+            Edition::Second(charset) => (true, charset.is_swu()),
+        }
+    }
+}
+
 /// The code of a symbol key such as `S10000`.
 pub fn key_to_code(key: &[u8]) -> Result<u16, Refusal> {
     let mut answer = [0; 3];
@@ -255,18 +282,45 @@ pub fn centred(
 }
 
 /// Says whether a query is well-formed and within its limits.
-pub fn read_query(query: &[u8]) -> Result<(), Refusal> {
+pub fn read_query(edition: Edition, query: &[u8]) -> Result<(), Refusal> {
+    let (second, query_swu) = edition.flags();
     let mut answer = [0; 2];
-    unsafe { raw::halofret_read_query(query.as_ptr(), query.len(), &mut answer) };
+    unsafe {
+        raw::halofret_read_query(second, query_swu, query.as_ptr(), query.len(), &mut answer)
+    };
     Refusal::check(&answer)
 }
 
-/// Whether a sign meets a query.
-pub fn verdict(charset: Charset, query: &[u8], text: &[u8]) -> Result<Verdict, Refusal> {
+/// Whether a sign in the character set meets a query.
+///
+/// ```
+/// use halofret::{verdict, Charset, Edition, Verdict};
+///
+/// let sign = b"M510x515S10000490x485S20500500x495";
+/// let query = b"QS20501oS205uuS20500500x515";
+/// let second = Edition::Second(Charset::Fsw);
+/// let Verdict::Met(witnesses) = verdict(Charset::Fsw, second, query, sign)? else {
+///     panic!("the sign has what is sought");
+/// };
+/// assert_eq!(witnesses[..3], [2, 2, 0]);
+///
+/// let refusal = verdict(Charset::Fsw, Edition::First, query, sign).unwrap_err();
+/// assert_eq!((refusal.number, refusal.place), (1, 7));
+/// # Ok::<(), halofret::Refusal>(())
+/// ```
+pub fn verdict(
+    charset: Charset,
+    edition: Edition,
+    query: &[u8],
+    text: &[u8],
+) -> Result<Verdict, Refusal> {
+    let (second, query_swu) = edition.flags();
     let mut answer = [0; 36];
     unsafe {
         raw::halofret_verdict(
             charset.is_swu(),
+            second,
+            query_swu,
             query.as_ptr(),
             query.len(),
             text.as_ptr(),
@@ -300,8 +354,10 @@ pub fn narrow(
     dictionary: &[u8],
     list: &mut [u16],
     count: usize,
+    edition: Edition,
     query: &[u8],
 ) -> Result<Narrowed, Refusal> {
+    let (second, query_swu) = edition.flags();
     let mut answer = [0; 4];
     unsafe {
         raw::halofret_narrow(
@@ -311,6 +367,8 @@ pub fn narrow(
             list.as_mut_ptr(),
             list.len(),
             count,
+            second,
+            query_swu,
             query.as_ptr(),
             query.len(),
             &mut answer,

@@ -106,11 +106,19 @@ extern "C" {
     );
 
     /// Says whether a query can be read.
-    pub fn halofret_read_query(query: *const u8, query_len: usize, answer: *mut [u64; 2]);
+    pub fn halofret_read_query(
+        second: bool,
+        query_swu: bool,
+        query: *const u8,
+        query_len: usize,
+        answer: *mut [u64; 2],
+    );
 
     /// Says whether a sign meets a query.
     pub fn halofret_verdict(
         swu: bool,
+        second: bool,
+        query_swu: bool,
         query: *const u8,
         query_len: usize,
         text: *const u8,
@@ -136,6 +144,8 @@ extern "C" {
         list: *mut u16,
         room: usize,
         n: usize,
+        second: bool,
+        query_swu: bool,
         query: *const u8,
         query_len: usize,
         answer: *mut [u64; 4],

@@ -1,8 +1,9 @@
 //! Opening, narrowing and fetching (document 01, "The dictionary and its list").
 
-use crate::query::{judge, read_query, Verdict};
+use crate::query::{judge, Verdict};
+use crate::query_text::read_query;
 use crate::sign::{read_into, Sign};
-use crate::{refuse, Answer, Charset};
+use crate::{refuse, Answer, Charset, Edition};
 
 pub const MOST_LINES: usize = 65_535;
 const LINE_END: u8 = 10;
@@ -98,9 +99,10 @@ pub fn narrow(
     dictionary: &[u8],
     list: &mut [u16],
     count: usize,
+    edition: Edition,
     query: &[u8],
 ) -> Answer<Narrowed> {
-    let query = read_query(query)?;
+    let query = read_query(edition, query)?;
     let line_count = checked_lines(dictionary)?;
     let Some(list) = list.get_mut(..count).filter(|list| rises(list, line_count)) else {
         return refuse(11, 0);

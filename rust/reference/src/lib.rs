@@ -1,5 +1,5 @@
-//! A plain implementation of document 01 and of requests of document 02,
-//! to hold the proved library against.
+//! A plain implementation of document 01 and of requests of document
+//! 02, to hold the proved library against.
 //!
 //! It was written from the papers alone and shares no code with the library. It is
 //! simple first, but allocates nothing for a line, so that its speed is a fair measure.
@@ -9,12 +9,13 @@
 //! - `sign`: reading, writing and transcribing a sign
 //! - `styling`, `styling_record`: the same for a sign with a styling, and a styling as numbers
 //! - `geometry`: boxes, centres, shifting and centring
-//! - `query`: reading a query, and its verdict on a sign
+//! - `query`, `query_text`: a query and its verdict on a sign; reading one in both editions
 //! - `dictionary`: opening, narrowing and fetching
 
 mod dictionary;
 mod geometry;
 mod query;
+mod query_text;
 mod sign;
 mod styling;
 mod styling_record;
@@ -23,7 +24,8 @@ mod text;
 
 pub use dictionary::{fetch, narrow, open, Fetched, Narrowed, MOST_LINES};
 pub use geometry::{boxes, centred, shift, Bounds, Boxes, SIZE_LIST_LENGTH};
-pub use query::{read_query, verdict, Query, Verdict, MOST_ITEMS};
+pub use query::{verdict, Query, Verdict, MOST_ALTERNATIVES, MOST_ITEMS};
+pub use query_text::{read_query, read_query_into};
 pub use sign::{read, read_into, transcribe, Placed, Sign, MOST_PREFIX, MOST_SYMBOLS};
 pub use styling::{read_styled, read_styled_into, transcribe_styled};
 pub use styling::{Detail, Styling, SymbolStyle, LONGEST_NAME, MOST_STYLES, MOST_ZOOM};
@@ -45,6 +47,16 @@ impl Charset {
             Charset::Swu => Charset::Fsw,
         }
     }
+}
+
+/// The two ways to write a query.
+#[derive(Clone, Copy, Debug, PartialEq, Eq)]
+pub enum Edition {
+    /// That of document 01, in FSW form.
+    First,
+    /// That of draft -10, section 1.5, in either character set: an item may have alternatives,
+    /// and null may be sought in the prefix.
+    Second(Charset),
 }
 
 /// Why a call was refused (document 01, "Refusal numbers").

@@ -1,209 +1,119 @@
-//! Reading a query, and its verdict on a sign (document 01, "A query").
+//! A query and its verdict on a sign (document 01, "A query"; alternatives and null by
+//! document 02, Q-9).
 
+use crate::query_text::fill;
 use crate::sign::{read_into, Placed, Sign};
-use crate::symbol::{first_code_of, last_code_of, rotation_of, Key, LAST_BASE};
-use crate::text::{Bytes, Tokens};
-use crate::{refuse, Answer, Charset};
+use crate::symbol::{first_code_of, last_code_of, Key};
+use crate::{Answer, Charset, Edition};
 
 /// The most items in the prefix, and again in the signbox.
 pub const MOST_ITEMS: usize = 32;
-const USUAL_VARIANCE: u16 = 20;
+/// The most alternatives in an item.
+pub const MOST_ALTERNATIVES: usize = 8;
 
-/// What one symbol must be: its code lies between the two, ends included. The null symbol,
-/// code 0, lies between no two.
-#[derive(Clone, Copy, Debug, PartialEq, Eq)]
-struct Item {
+const MOST_IN_ALL: usize = 2 * MOST_ITEMS * MOST_ALTERNATIVES;
+pub(crate) const USUAL_VARIANCE: u16 = 20;
+
+/// What one symbol must be: its code lies at most `extent` above `first` and has none of the
+/// bits of `barred` in that distance. Null, code 0, does so only where it is itself what is sought.
+#[derive(Clone, Copy, Debug)]
+pub(crate) struct Alternative {
     first: u16,
-    last: u16,
-    /// Asked for by itself where the fill may be anything.
-    rotation: Option<u16>,
+    extent: u16,
+    /// 15 where the fill may be anything but the rotation may not, as fills are 16 codes apart;
+    /// else 0.
+    barred: u16,
 }
 
-impl Item {
-    const NONE: Item = Item {
-        first: 1,
-        last: 0,
-        rotation: None,
+impl Alternative {
+    pub const NULL: Alternative = Alternative {
+        first: 0,
+        extent: 0,
+        barred: 0,
     };
 
     /// A part that is `None` may be anything.
-    fn symbol(base: u16, fill: Option<u16>, rotation: Option<u16>) -> Item {
-        let code = |fill, rotation| {
-            let key = Key {
-                base,
-                fill,
-                rotation,
-            };
-            key.code()
+    pub fn symbol(base: u16, fill: Option<u16>, rotation: Option<u16>) -> Alternative {
+        let key = Key {
+            base,
+            fill: fill.unwrap_or(0),
+            rotation: rotation.unwrap_or(0),
         };
-        Item {
-            first: code(fill.unwrap_or(0), rotation.unwrap_or(0)),
-            last: code(fill.unwrap_or(5), rotation.unwrap_or(15)),
-            rotation,
+        let (extent, barred) = match (fill, rotation) {
+            (Some(_), Some(_)) => (0, 0),
+            (Some(_), None) => (15, 0),
+            (None, Some(_)) => (80, 15),
+            (None, None) => (95, 0),
+        };
+        Alternative {
+            first: key.code(),
+            extent,
+            barred,
         }
     }
 
-    /// Bases, both ends included.
-    fn range(first: u16, last: u16) -> Item {
-        Item {
-            first: first_code_of(first),
-            last: last_code_of(last),
-            rotation: None,
+    /// Bases, both ends included. One that ends below its start is refused after the whole text.
+    pub fn range(first: u16, last: u16) -> Alternative {
+        let first = first_code_of(first);
+        Alternative {
+            first,
+            extent: last_code_of(last).saturating_sub(first),
+            barred: 0,
         }
     }
 
+    /// The distance of a code below the first wraps round, and is then beyond every extent.
     fn fits(self, code: u16) -> bool {
-        self.first <= code
-            && code <= self.last
-            && self.rotation.is_none_or(|asked| rotation_of(code) == asked)
+        let above = code.wrapping_sub(self.first);
+        above <= self.extent && above & self.barred == 0
     }
 }
 
-/// What the query asks of the prefix.
-#[derive(Clone, Copy, Debug, PartialEq, Eq)]
-enum Prefix {
+/// What a query asks of the prefix.
+#[derive(Clone, Copy, Debug)]
+pub(crate) enum Prefix {
     Anything,
     Present,
     /// The first so many symbols satisfy so many items.
     Begins(usize),
 }
 
-/// A query that was read.
-#[derive(Clone, Debug)]
-pub struct Query {
-    prefix: Prefix,
-    prefix_items: [Item; MOST_ITEMS],
-    items: [(Item, Option<(u16, u16)>); MOST_ITEMS],
-    item_count: usize,
-    variance: u16,
+/// Which of a query's alternatives are those of one item.
+#[derive(Clone, Copy, Debug)]
+pub(crate) struct Span {
+    pub start: u16,
+    pub end: u16,
 }
 
-impl Query {
-    const EMPTY: Query = Query {
+impl Span {
+    const NONE: Span = Span { start: 0, end: 0 };
+}
+
+/// A query that was read, with room for so many alternatives in all. Places of the arrays beyond
+/// the counts are not part of it.
+#[derive(Clone, Debug)]
+pub struct Query<const ROOM: usize = MOST_IN_ALL> {
+    pub(crate) prefix: Prefix,
+    pub(crate) prefix_items: [Span; MOST_ITEMS],
+    /// Each with its coordinate, which is that of all its alternatives.
+    pub(crate) items: [(Span, Option<(u16, u16)>); MOST_ITEMS],
+    pub(crate) item_count: usize,
+    pub(crate) variance: u16,
+    pub(crate) alternatives: [Alternative; ROOM],
+}
+
+impl<const ROOM: usize> Query<ROOM> {
+    pub const EMPTY: Query<ROOM> = Query {
         prefix: Prefix::Anything,
-        prefix_items: [Item::NONE; MOST_ITEMS],
-        items: [(Item::NONE, None); MOST_ITEMS],
+        prefix_items: [Span::NONE; MOST_ITEMS],
+        items: [(Span::NONE, None); MOST_ITEMS],
         item_count: 0,
         variance: USUAL_VARIANCE,
+        alternatives: [Alternative::NULL; ROOM],
     };
-}
 
-pub fn read_query(text: &[u8]) -> Answer<Query> {
-    let mut query = Query::EMPTY;
-    read_query_into(text, &mut query)?;
-    Ok(query)
-}
-
-/// Reads into an empty query.
-fn read_query_into(text: &[u8], query: &mut Query) -> Answer<()> {
-    let mut reader = Reader {
-        bytes: Bytes::over(text),
-        first_reversed: None,
-    };
-    reader.bytes.literal(b'Q')?;
-    let prefix_count = reader.prefix(query)?;
-    reader.signbox(query)?;
-    reader.variance(query)?;
-    reader.bytes.end()?;
-    if prefix_count > MOST_ITEMS {
-        return refuse(3, 0);
-    }
-    if query.item_count > MOST_ITEMS {
-        return refuse(4, 0);
-    }
-    match reader.first_reversed {
-        Some(place) => refuse(5, place),
-        None => Ok(()),
-    }
-}
-
-/// Limits and range order are judged after the whole text, so items beyond the limit
-/// are counted and not kept, and the first reversed range is only noted.
-struct Reader<'a> {
-    bytes: Bytes<'a>,
-    first_reversed: Option<usize>,
-}
-
-impl Reader<'_> {
-    /// Answers the number of prefix items.
-    fn prefix(&mut self, query: &mut Query) -> Answer<usize> {
-        let mut count = 0;
-        if self.bytes.peek() == Some(b'T') {
-            self.bytes.at += 1;
-            query.prefix = Prefix::Present;
-        } else if self.bytes.peek() == Some(b'A') {
-            self.bytes.at += 1;
-            while count == 0 || self.bytes.peek() != Some(b'T') {
-                let item = self.item()?;
-                if let Some(place) = query.prefix_items.get_mut(count) {
-                    *place = item;
-                }
-                count += 1;
-            }
-            self.bytes.at += 1;
-            query.prefix = Prefix::Begins(count);
-        }
-        Ok(count)
-    }
-
-    fn signbox(&mut self, query: &mut Query) -> Answer<()> {
-        while matches!(self.bytes.peek(), Some(b'S' | b'R')) {
-            let item = self.item()?;
-            let coordinate = match self.bytes.peek() {
-                Some(b'2'..=b'7') => Some(self.bytes.coordinate()?),
-                _ => None,
-            };
-            if let Some(place) = query.items.get_mut(query.item_count) {
-                *place = (item, coordinate);
-            }
-            query.item_count += 1;
-        }
-        Ok(())
-    }
-
-    fn item(&mut self) -> Answer<Item> {
-        if self.bytes.peek() == Some(b'R') {
-            return self.range();
-        }
-        self.bytes.literal(b'S')?;
-        let base = self.bytes.base(LAST_BASE)?;
-        let fill = self.digit_or_any(6)?;
-        let rotation = self.digit_or_any(16)?;
-        Ok(Item::symbol(base, fill, rotation))
-    }
-
-    fn range(&mut self) -> Answer<Item> {
-        let place = self.bytes.at;
-        self.bytes.literal(b'R')?;
-        let first = self.bytes.base(LAST_BASE)?;
-        self.bytes.literal(b't')?;
-        let last = self.bytes.base(LAST_BASE)?;
-        if last < first {
-            self.first_reversed.get_or_insert(place);
-        }
-        Ok(Item::range(first, last))
-    }
-
-    fn digit_or_any(&mut self, radix: u16) -> Answer<Option<u16>> {
-        if self.bytes.peek() == Some(b'u') {
-            self.bytes.at += 1;
-            return Ok(None);
-        }
-        self.bytes.digit(radix).map(Some)
-    }
-
-    fn variance(&mut self, query: &mut Query) -> Answer<()> {
-        if self.bytes.peek() != Some(b'V') {
-            return Ok(());
-        }
-        self.bytes.at += 1;
-        query.variance = self.bytes.digit(10)?;
-        for _ in 1..3 {
-            if let Ok(digit) = self.bytes.digit(10) {
-                query.variance = query.variance * 10 + digit;
-            }
-        }
-        Ok(())
+    fn alternatives(&self, of: Span) -> &[Alternative] {
+        &self.alternatives[of.start.into()..of.end.into()]
     }
 }
 
@@ -217,23 +127,41 @@ pub enum Verdict {
 }
 
 /// A refusal of the query comes before one of the sign.
-pub fn verdict(charset: Charset, query: &[u8], text: &[u8]) -> Answer<Verdict> {
-    let mut asked = Query::EMPTY;
-    read_query_into(query, &mut asked)?;
+pub fn verdict(charset: Charset, edition: Edition, query: &[u8], text: &[u8]) -> Answer<Verdict> {
+    // To clear room for the most alternatives would take a fourth of the time of a usual verdict.
+    // Each takes at least four bytes, so a short query has few.
+    const FEW: usize = 32;
+    if query.len() < 4 * FEW {
+        verdict_in::<FEW>(charset, edition, query, text)
+    } else {
+        verdict_in::<MOST_IN_ALL>(charset, edition, query, text)
+    }
+}
+
+fn verdict_in<const ROOM: usize>(
+    charset: Charset,
+    edition: Edition,
+    query: &[u8],
+    text: &[u8],
+) -> Answer<Verdict> {
+    let mut asked = Query::<ROOM>::EMPTY;
+    fill(edition, query, &mut asked)?;
     let mut sign = Sign::EMPTY;
     read_into(charset, text, &mut sign)?;
     Ok(judge(&asked, &sign))
 }
 
-pub(crate) fn judge(query: &Query, sign: &Sign) -> Verdict {
+pub(crate) fn judge<const ROOM: usize>(query: &Query<ROOM>, sign: &Sign) -> Verdict {
     if !prefix_holds(query, sign.prefix()) {
         return Verdict::Unmet(0);
     }
     let mut witnesses = [0; MOST_ITEMS];
     let items = &query.items[..query.item_count];
     for (index, &(item, coordinate)) in items.iter().enumerate() {
+        let alternatives = query.alternatives(item);
         let fits = |symbol: &Placed| {
-            item.fits(symbol.code) && coordinate.is_none_or(|at| near(symbol, at, query.variance))
+            alternatives.iter().any(|a| a.fits(symbol.code))
+                && coordinate.is_none_or(|at| near(symbol, at, query.variance))
         };
         match sign.symbols().iter().position(fits) {
             Some(symbol) => witnesses[index] = symbol as u8 + 1,
@@ -243,13 +171,14 @@ pub(crate) fn judge(query: &Query, sign: &Sign) -> Verdict {
     Verdict::Met(witnesses)
 }
 
-fn prefix_holds(query: &Query, prefix: &[u16]) -> bool {
+fn prefix_holds<const ROOM: usize>(query: &Query<ROOM>, prefix: &[u16]) -> bool {
     match query.prefix {
         Prefix::Anything => true,
         Prefix::Present => !prefix.is_empty(),
         Prefix::Begins(count) => {
             let mut pairs = query.prefix_items[..count].iter().zip(prefix);
-            prefix.len() >= count && pairs.all(|(item, &code)| item.fits(code))
+            let fits = |item: Span, code| query.alternatives(item).iter().any(|a| a.fits(code));
+            prefix.len() >= count && pairs.all(|(&item, &code)| fits(item, code))
         }
     }
 }

@@ -2,10 +2,12 @@
 //!
 //! Places follow document 01, "Refusal numbers": FSW goes byte by byte, SWU in groups
 //! of four bytes. A text that ends where more was needed is 2 at its length. A wrong
-//! coordinate number of FSW or of a query is 1 at its first byte (document 02, Q-5).
+//! coordinate number of FSW is 1 at its first byte (document 02, Q-5). In queries the
+//! characters of SWU go byte by byte too (document 02, Q-9).
 
 use crate::symbol::{
-    last_code_of, Key, CHARACTER_LENGTH, FIRST_BASE, LAST_LOCATION_BASE, LAST_WRITING_BASE,
+    four_bytes, last_code_of, Key, CHARACTER_LENGTH, FIRST_BASE, LAST_LOCATION_BASE,
+    LAST_WRITING_BASE,
 };
 use crate::{refuse, Answer, Refusal};
 
@@ -153,13 +155,46 @@ impl<'a> Bytes<'a> {
     }
 
     pub fn symbol_or_null(&mut self, last_base: u16) -> Answer<u16> {
-        if !self.rest().starts_with(b"S0") {
+        if !self.at_null_key() {
             return self.symbol(last_base);
         }
+        self.null_key()?;
+        Ok(0)
+    }
+
+    /// Whether null's key, and so no other, is what can be read here.
+    pub fn at_null_key(&self) -> bool {
+        self.rest().starts_with(b"S0")
+    }
+
+    pub fn null_key(&mut self) -> Answer<()> {
         for byte in *b"S00000" {
             self.literal(byte)?;
         }
-        Ok(0)
+        Ok(())
+    }
+
+    /// The code of a symbol character, between the two, ends included.
+    pub fn symbol_character(&mut self, least: u16, greatest: u16) -> Answer<u16> {
+        self.character(NULL_SYMBOL, least, greatest)
+    }
+
+    pub fn number_character(&mut self) -> Answer<u16> {
+        let above_least = self.character(NUMBER_250, 0, GREATEST_NUMBER - LEAST_NUMBER)?;
+        Ok(LEAST_NUMBER + above_least)
+    }
+
+    /// How far the character here lies after `first`, if that is from `least` to `greatest`.
+    fn character(&mut self, first: u32, least: u16, greatest: u16) -> Answer<u16> {
+        if let &[a, b, c, d, ..] = self.rest() {
+            let distance = point([a, b, c, d]).wrapping_sub(first);
+            if u32::from(least) <= distance && distance <= u32::from(greatest) {
+                self.at += CHARACTER_LENGTH;
+                return Ok(distance as u16);
+            }
+        }
+        let (least, greatest) = (first + u32::from(least), first + u32::from(greatest));
+        Err(self.refusal(character_beginning(self.rest(), least, greatest)))
     }
 }
 
@@ -205,6 +240,20 @@ fn numeral_beginning(text: &[u8], radix: u16, least: u16, greatest: u16) -> usiz
         }
     }
     text.len().min(3)
+}
+
+/// How many bytes begin some character between the two, each of four bytes. The order of such
+/// characters is that of their bytes, so what begins one lies between the beginnings of the two.
+#[cold]
+fn character_beginning(text: &[u8], least: u32, greatest: u32) -> usize {
+    let (least, greatest) = (four_bytes(least), four_bytes(greatest));
+    let begins = |length: &usize| {
+        let (start, last) = (&text[..*length], text[*length - 1]);
+        let continues = *length == 1 || last & 0xc0 == 0x80;
+        continues && least[..*length] <= *start && *start <= greatest[..*length]
+    };
+    let lengths = 1..=text.len().min(CHARACTER_LENGTH);
+    lengths.take_while(begins).count()
 }
 
 impl<'a> Tokens<'a> for Bytes<'a> {
@@ -281,6 +330,16 @@ const MARK_A: u32 = 0x1d800;
 const NUMBER_250: u32 = 0x1d80c;
 const NULL_SYMBOL: u32 = 0x40000;
 
+/// The code point of four bytes; 0, which no token is, if they are no character.
+fn point(bytes: [u8; CHARACTER_LENGTH]) -> u32 {
+    let bits = u32::from_be_bytes(bytes);
+    if bits & 0xf8c0_c0c0 != 0xf080_8080 {
+        return 0;
+    }
+    let high = (bits >> 24 & 7) << 18 | (bits >> 16 & 0x3f) << 12;
+    high | (bits >> 8 & 0x3f) << 6 | bits & 0x3f
+}
+
 /// A cursor over SWU, where every character is a group of four bytes.
 pub(crate) struct Groups<'a> {
     text: &'a [u8],
@@ -291,12 +350,7 @@ impl Groups<'_> {
     /// The character here; 0, which no token is, for a group that is no such character.
     fn peek(&self) -> Option<u32> {
         let group = self.text.get(self.at..self.at + CHARACTER_LENGTH)?;
-        let group = u32::from_be_bytes(group.try_into().unwrap());
-        if group & 0xf8c0_c0c0 != 0xf080_8080 {
-            return Some(0);
-        }
-        let high = (group >> 24 & 7) << 18 | (group >> 16 & 0x3f) << 12;
-        Some(high | (group >> 8 & 0x3f) << 6 | group & 0x3f)
+        Some(point(group.try_into().unwrap()))
     }
 
     /// How far the character here lies after `first`, if that is from `least` to `greatest`.

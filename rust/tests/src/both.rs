@@ -4,7 +4,7 @@
 use crate::interface::{Interface, SignRecord, StyledAnswer, StylingNumbers};
 use crate::library::Library;
 use crate::sides::{Reference, Wrapper};
-use halofret::{Charset, StylingRecord};
+use halofret::{Charset, Edition, StylingRecord};
 
 pub struct Both;
 
@@ -122,13 +122,14 @@ impl Interface for Both {
         agreed_writing(out, call, || format!("{} with room {room}", shown(text)))
     }
 
-    fn read_query(&self, query: &[u8]) -> [u64; 2] {
-        agreed(|side| side.read_query(query), || shown(query))
+    fn read_query(&self, edition: Edition, query: &[u8]) -> [u64; 2] {
+        let input = || format!("{} in {edition:?}", shown(query));
+        agreed(|side| side.read_query(edition, query), input)
     }
 
-    fn verdict(&self, set: Charset, query: &[u8], text: &[u8]) -> [u64; 36] {
-        let input = || format!("{} of {}", shown(query), shown(text));
-        agreed(|side| side.verdict(set, query, text), input)
+    fn verdict(&self, set: Charset, edition: Edition, query: &[u8], text: &[u8]) -> [u64; 36] {
+        let input = || format!("{} in {edition:?} of {}", shown(query), shown(text));
+        agreed(|side| side.verdict(set, edition, query, text), input)
     }
 
     fn open(&self, set: Charset, dictionary: &[u8], list: &mut [u16]) -> [u64; 3] {
@@ -144,15 +145,16 @@ impl Interface for Both {
         dictionary: &[u8],
         list: &mut [u16],
         count: usize,
+        edition: Edition,
         query: &[u8],
     ) -> [u64; 4] {
         let room = list.len();
         let call = |side: &dyn Interface, list: &mut [u16]| {
-            side.narrow(set, dictionary, list, count, query)
+            side.narrow(set, dictionary, list, count, edition, query)
         };
         let input = || {
             let (query, dictionary) = (shown(query), shown(dictionary));
-            format!("{query} over {dictionary}, n {count}, room {room}")
+            format!("{query} in {edition:?} over {dictionary}, n {count}, room {room}")
         };
         agreed_writing(list, call, input)
     }

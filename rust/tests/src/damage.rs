@@ -3,7 +3,7 @@
 use crate::random::Random;
 
 /// Bytes that mean something somewhere, so that damage is often nearly right.
-const TELLING: &[u8] = b"ABLMRSQTVtuxo-0123456789abcdefAF\n\r \x00\x7f\x80\xf0\xf1\xff";
+const TELLING: &[u8] = b"ABLMRSQTVtuxofr-0123456789abcdefAF\n\r \x00\x7f\x80\xf0\xf1\xff";
 
 /// Characters at and next to the ends of the allowed ranges, and forms that UTF-8 forbids.
 const GROUPS: [[u8; 4]; 20] = [
@@ -41,7 +41,7 @@ pub fn damaged(random: &mut Random, text: &[u8]) -> Vec<u8> {
 fn damage(random: &mut Random, text: &mut Vec<u8>) {
     let at = random.below(text.len() + 1);
     let inside = at < text.len();
-    match random.below(8) {
+    match random.below(9) {
         0 if inside => text[at] ^= 1 << random.below(8),
         1 if inside => text[at] = *random.pick(TELLING),
         2 if inside => drop(text.remove(at)),
@@ -49,6 +49,7 @@ fn damage(random: &mut Random, text: &mut Vec<u8>) {
         4 => text.truncate(at),
         5 => splice(random, text, at),
         6 => damage_group(random, text),
+        7 => drop(text.splice(at..at, *random.pick(&GROUPS))),
         _ => text.extend(random.pick(&GROUPS)),
     }
 }

@@ -135,7 +135,8 @@ fn query_base(random: &mut Random) -> u16 {
     }
 }
 
-fn query_item(random: &mut Random) -> String {
+/// A symbol or a range, in FSW.
+pub(crate) fn query_item(random: &mut Random) -> String {
     let base = query_base(random);
     if random.once_in(3) {
         let mut ends = [base, query_base(random)];
@@ -215,8 +216,14 @@ pub fn wide_query(random: &mut Random) -> Vec<u8> {
     text.into_bytes()
 }
 
-/// A query made from the symbols of the sign, so that it is often met or nearly met.
+/// A query made from the symbols of the sign, so that it is often met or nearly met. Where the
+/// sign has null, the first code stands.
 pub fn query_about(random: &mut Random, fsw: &[u8]) -> Vec<u8> {
+    query_about_from(random, fsw, 1)
+}
+
+/// The same with no code below the least.
+pub(crate) fn query_about_from(random: &mut Random, fsw: &[u8], least: u16) -> Vec<u8> {
     let Ok(sign) = reference::read(reference::Charset::Fsw, fsw) else {
         return query(random);
     };
@@ -225,7 +232,7 @@ pub fn query_about(random: &mut Random, fsw: &[u8]) -> Vec<u8> {
     if begins > 0 && random.once_in(2) {
         text.push('A');
         for &code in &sign.prefix()[..begins] {
-            text += &loosened(random, code.max(1));
+            text += &loosened(random, code.max(least));
         }
         text.push('T');
     }
@@ -254,6 +261,9 @@ fn loosened(random: &mut Random, code: u16) -> String {
     let mut key = [0; 6];
     reference::code_to_key(code.into(), &mut key).unwrap();
     let mut key = String::from_utf8(key.to_vec()).unwrap();
+    if code == 0 {
+        return key;
+    }
     let base = u16::from_str_radix(&key[1..4], 16).unwrap();
     match random.below(5) {
         0 => key.replace_range(4..6, "uu"),

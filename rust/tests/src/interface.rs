@@ -1,6 +1,6 @@
 //! The entries of `include/halofret.h`, each answering the numbers that C is given.
 
-use halofret::{raw, Charset, StylingRecord};
+use halofret::{raw, Charset, Edition, StylingRecord};
 
 pub type SignRecord = [u16; raw::HALOFRET_SIGN];
 
@@ -43,8 +43,8 @@ pub trait Interface {
     fn boxes(&self, set: Charset, text: &[u8], sizes: &[u8]) -> ([f32; 2], [u64; 19]);
     fn shift(&self, set: Charset, text: &[u8], by: (i32, i32), out: &mut [u8]) -> [u64; 3];
     fn centred(&self, set: Charset, text: &[u8], sizes: &[u8], out: &mut [u8]) -> [u64; 3];
-    fn read_query(&self, query: &[u8]) -> [u64; 2];
-    fn verdict(&self, set: Charset, query: &[u8], text: &[u8]) -> [u64; 36];
+    fn read_query(&self, edition: Edition, query: &[u8]) -> [u64; 2];
+    fn verdict(&self, set: Charset, edition: Edition, query: &[u8], text: &[u8]) -> [u64; 36];
     fn open(&self, set: Charset, dictionary: &[u8], list: &mut [u16]) -> [u64; 3];
     fn narrow(
         &self,
@@ -52,6 +52,7 @@ pub trait Interface {
         dictionary: &[u8],
         list: &mut [u16],
         count: usize,
+        edition: Edition,
         query: &[u8],
     ) -> [u64; 4];
     fn fetch(&self, first: &[u8], second: &[u8], number: usize) -> [u64; 4];

@@ -5,10 +5,12 @@
 //! - `sides`: the reference and the safe wrapper in the same layout
 //! - `both`: all of them at once; it fails where they differ
 //! - `generate`, `damage`, `random`: seeded signs, queries and dictionaries, and their damage
-//! - `stylings`: seeded stylings, and theirs
+//! - `editions`: seeded queries of every edition, and the spelling of the second in SWU
+//! - `stylings`: seeded stylings, and their damage
 
 pub mod both;
 pub mod damage;
+pub mod editions;
 pub mod generate;
 pub mod interface;
 mod lent;
@@ -21,6 +23,12 @@ pub use both::Both;
 pub use interface::Interface;
 pub use random::{cases, Random, Tally};
 
-pub use halofret::Charset;
+pub use halofret::{Charset, Edition};
 
 pub const BOTH_SETS: [Charset; 2] = [Charset::Fsw, Charset::Swu];
+
+pub const EDITIONS: [Edition; 3] = [
+    Edition::First,
+    Edition::Second(Charset::Fsw),
+    Edition::Second(Charset::Swu),
+];

@@ -5,13 +5,13 @@
 
 use crate::interface::{Interface, SignRecord, StyledAnswer, StylingNumbers};
 use crate::lent::Lent;
-use halofret::{raw, Charset, StylingRecord};
+use halofret::{raw, Charset, Edition, StylingRecord};
 
 pub struct Library;
 
 /// Bytes around a lent text: some that would go on a sign, a query or a styling, should a call
 /// read beyond the end.
-const EDGES: [u8; 8] = [0xa5, b'5', b'S', b'0', b'-', b'_', 10, 0x80];
+const EDGES: [u8; 10] = [0xa5, b'5', b'S', b'0', b'-', b'_', 10, 0x80, b'f', b'o'];
 
 /// A text that is lent to be read.
 struct Text<'a> {
@@ -78,6 +78,15 @@ fn if_done<T: Copy + Default, const N: usize>(written: [T; N], numbers: &[u64]) 
 
 fn is_swu(set: Charset) -> bool {
     set == Charset::Swu
+}
+
+/// Whether the edition is the second, and whether its set is SWU. In the first the set says
+/// nothing, so it is now one and now the other.
+fn flags(edition: Edition, query: &Text) -> (bool, bool) {
+    match edition {
+        Edition::First => (false, query.len() % 2 == 1),
+        Edition::Second(set) => (true, is_swu(set)),
+    }
 }
 
 impl Interface for Library {
@@ -187,16 +196,21 @@ impl Interface for Library {
         })
     }
 
-    fn read_query(&self, query: &[u8]) -> [u64; 2] {
+    fn read_query(&self, edition: Edition, query: &[u8]) -> [u64; 2] {
         let mut query = Text::new(query);
-        answer(|a| unsafe { raw::halofret_read_query(query.start(), query.len(), a) })
+        let (second, query_swu) = flags(edition, &query);
+        answer(|a| unsafe {
+            raw::halofret_read_query(second, query_swu, query.start(), query.len(), a)
+        })
     }
 
-    fn verdict(&self, set: Charset, query: &[u8], text: &[u8]) -> [u64; 36] {
+    fn verdict(&self, set: Charset, edition: Edition, query: &[u8], text: &[u8]) -> [u64; 36] {
         let (mut query, mut text) = (Text::new(query), Text::new(text));
+        let (swu, (second, query_swu)) = (is_swu(set), flags(edition, &query));
         answer(|a| unsafe {
             let (query, query_len) = (query.start(), query.len());
-            raw::halofret_verdict(is_swu(set), query, query_len, text.start(), text.len(), a)
+            let (text, len) = (text.start(), text.len());
+            raw::halofret_verdict(swu, second, query_swu, query, query_len, text, len, a)
         })
     }
 
@@ -214,15 +228,18 @@ impl Interface for Library {
         dictionary: &[u8],
         list: &mut [u16],
         count: usize,
+        edition: Edition,
         query: &[u8],
     ) -> [u64; 4] {
         let (mut dict, mut query) = (Text::new(dictionary), Text::new(query));
+        let (swu, (second, query_swu)) = (is_swu(set), flags(edition, &query));
         let room = list.len();
         writing(list, 0x5555, |list, a| unsafe {
             let (dict, dict_len) = (dict.start(), dict.len());
             let (query, query_len) = (query.start(), query.len());
-            let swu = is_swu(set);
-            raw::halofret_narrow(swu, dict, dict_len, list, room, count, query, query_len, a)
+            raw::halofret_narrow(
+                swu, dict, dict_len, list, room, count, second, query_swu, query, query_len, a,
+            )
         })
     }
 

@@ -63,7 +63,7 @@ impl Drop for SeedShown {
 
 /// How often each refusal number was answered, so that a test can show it met them all.
 #[derive(Default)]
-pub struct Tally([usize; 20]);
+pub struct Tally([usize; 23]);
 
 impl Tally {
     pub fn note(&mut self, number: u64) {

@@ -5,7 +5,7 @@
 
 use crate::interface::{numbers, sign_record, Interface, SignRecord, NO_SIGN};
 use crate::interface::{StyledAnswer, StylingNumbers, NO_STYLING};
-use halofret::{Charset, StylingRecord};
+use halofret::{Charset, Edition, StylingRecord};
 
 pub struct Reference;
 pub struct Wrapper;
@@ -19,6 +19,17 @@ fn reference_set(set: Charset) -> reference::Charset {
 
 fn wrapper_set(set: Charset) -> Charset {
     set
+}
+
+fn reference_edition(edition: Edition) -> reference::Edition {
+    match edition {
+        Edition::First => reference::Edition::First,
+        Edition::Second(set) => reference::Edition::Second(reference_set(set)),
+    }
+}
+
+fn wrapper_edition(edition: Edition) -> Edition {
+    edition
 }
 
 fn reference_styling(styling: &reference::Styling) -> StylingNumbers {
@@ -59,7 +70,7 @@ macro_rules! sign_numbers {
 }
 
 macro_rules! side {
-    ($side:ident, $of:ident, $set_of:ident, $styling_of:ident) => {
+    ($side:ident, $of:ident, $set_of:ident, $edition_of:ident, $styling_of:ident) => {
         impl Interface for $side {
             fn key_to_code(&self, key: &[u8]) -> [u64; 3] {
                 lay_out!($of::key_to_code(key), one)
@@ -126,11 +137,17 @@ macro_rules! side {
                 lay_out!($of::centred($set_of(set), text, sizes, out), one)
             }
 
-            fn read_query(&self, query: &[u8]) -> [u64; 2] {
-                lay_out!($of::read_query(query), |_| vec![])
+            fn read_query(&self, edition: Edition, query: &[u8]) -> [u64; 2] {
+                lay_out!($of::read_query($edition_of(edition), query), |_| vec![])
             }
 
-            fn verdict(&self, set: Charset, query: &[u8], text: &[u8]) -> [u64; 36] {
+            fn verdict(
+                &self,
+                set: Charset,
+                edition: Edition,
+                query: &[u8],
+                text: &[u8],
+            ) -> [u64; 36] {
                 let values = |verdict| match verdict {
                     $of::Verdict::Unmet(condition) => vec![0, condition as u64],
                     $of::Verdict::Met(witnesses) => {
@@ -138,7 +155,8 @@ macro_rules! side {
                         [&[1, 0], &witnesses[..]].concat()
                     }
                 };
-                lay_out!($of::verdict($set_of(set), query, text), values)
+                let (set, edition) = ($set_of(set), $edition_of(edition));
+                lay_out!($of::verdict(set, edition, query, text), values)
             }
 
             fn open(&self, set: Charset, dictionary: &[u8], list: &mut [u16]) -> [u64; 3] {
@@ -151,9 +169,11 @@ macro_rules! side {
                 dictionary: &[u8],
                 list: &mut [u16],
                 count: usize,
+                edition: Edition,
                 query: &[u8],
             ) -> [u64; 4] {
-                let answer = $of::narrow($set_of(set), dictionary, list, count, query);
+                let (set, edition) = ($set_of(set), $edition_of(edition));
+                let answer = $of::narrow(set, dictionary, list, count, edition, query);
                 let values =
                     |narrowed: $of::Narrowed| vec![narrowed.kept as u64, narrowed.dropped as u64];
                 lay_out!(answer, values)
@@ -175,5 +195,17 @@ macro_rules! side {
     };
 }
 
-side!(Reference, reference, reference_set, reference_styling);
-side!(Wrapper, halofret, wrapper_set, wrapper_styling);
+side!(
+    Reference,
+    reference,
+    reference_set,
+    reference_edition,
+    reference_styling
+);
+side!(
+    Wrapper,
+    halofret,
+    wrapper_set,
+    wrapper_edition,
+    wrapper_styling
+);

@@ -1,8 +1,10 @@
 //! Opening, narrowing and fetching, on good and damaged dictionaries and lists.
 
 use differential::damage::{damaged, noise};
-use differential::generate::{dictionary, dictionary_of, in_swu, query, short_sign, wide_query};
-use differential::{cases, Both, Charset, Interface, Random, Tally, BOTH_SETS};
+use differential::editions::{query_in, wide_query_in};
+use differential::generate::{dictionary, dictionary_of, in_swu, short_sign};
+use differential::{cases, Both, Charset, Edition, Interface, Random, Tally, BOTH_SETS, EDITIONS};
+use Edition::First;
 
 const MOST_LINES: usize = 65_535;
 
@@ -74,35 +76,54 @@ fn opening() {
     }
 }
 
+/// A query of the edition, most often good.
+fn any_query(random: &mut Random, edition: Edition) -> Vec<u8> {
+    match random.below(6) {
+        0 => query_in(random, edition),
+        1 => {
+            let sought = query_in(random, edition);
+            damaged(random, &sought)
+        }
+        _ => wide_query_in(random, edition),
+    }
+}
+
+fn any_count(random: &mut Random, most: usize) -> usize {
+    match random.below(12) {
+        0 => most + 1,
+        1 => *random.pick(&[usize::MAX, 65_536, 1 << 32]),
+        2 => 0,
+        _ => random.below(most + 1),
+    }
+}
+
+fn narrowing_by(set: Charset, edition: Edition, refusals: &[usize]) {
+    let mut tally = Tally::default();
+    let mut dropped = 0;
+    cases(610_000, 40_000, |random| {
+        let dictionary = any_dictionary(random, set);
+        let mut list = any_list(random, lines_of(&dictionary));
+        let sought = any_query(random, edition);
+        let count = any_count(random, list.len());
+        let answer = Both.narrow(set, &dictionary, &mut list, count, edition, &sought);
+        tally.note(answer[0]);
+        dropped += answer[3];
+    });
+    tally.expect(refusals);
+    assert!(dropped > 1_000, "only {dropped} entries were dropped");
+}
+
 #[test]
 fn narrowing() {
+    let of_dictionaries = [0, 11, 12, 13];
     for set in BOTH_SETS {
-        let mut tally = Tally::default();
-        let mut dropped = 0;
-        cases(610_000, 60_000, |random| {
-            let dictionary = any_dictionary(random, set);
-            let mut list = any_list(random, lines_of(&dictionary));
-            let sought = match random.below(6) {
-                0 => query(random),
-                1 => {
-                    let sought = query(random);
-                    damaged(random, &sought)
-                }
-                _ => wide_query(random),
+        for edition in EDITIONS {
+            let of_queries: &[usize] = match edition {
+                Edition::First => &[1, 2, 3, 4, 5],
+                Edition::Second(_) => &[1, 2, 3, 4, 5, 22],
             };
-            let most = list.len();
-            let count = match random.below(12) {
-                0 => most + 1,
-                1 => *random.pick(&[usize::MAX, 65_536, 1 << 32]),
-                2 => 0,
-                _ => random.below(most + 1),
-            };
-            let answer = Both.narrow(set, &dictionary, &mut list, count, &sought);
-            tally.note(answer[0]);
-            dropped += answer[3];
-        });
-        tally.expect(&[0, 1, 2, 3, 4, 5, 11, 12, 13]);
-        assert!(dropped > 1_000, "only {dropped} entries were dropped");
+            narrowing_by(set, edition, &[&of_dictionaries, of_queries].concat());
+        }
     }
 }
 
@@ -122,11 +143,14 @@ fn one_bad_line() {
             let place = bad as u64;
             assert_eq!(Both.open(set, &dictionary, &mut list), [13, place, 0]);
             for query in [b"Q".as_slice(), b"QS10000", b"QT"] {
-                let answer = Both.narrow(set, &dictionary, &mut list, 40, query);
+                let answer = Both.narrow(set, &dictionary, &mut list, 40, First, query);
                 assert_eq!(answer, [13, place, 0, 0]);
                 let mut others = list.clone();
                 others.remove(bad - 1);
-                assert_eq!(Both.narrow(set, &dictionary, &mut others, 39, query)[0], 0);
+                assert_eq!(
+                    Both.narrow(set, &dictionary, &mut others, 39, First, query)[0],
+                    0
+                );
             }
         }
     }
@@ -148,15 +172,18 @@ fn the_most_lines() {
         assert_eq!(Both.open(set, &dictionary, short), [6, 65_535, 0]);
         assert_eq!(Both.open(set, &dictionary, &mut list), [0, 0, 65_535]);
         assert_eq!(list[MOST_LINES - 1..], [65_535, 9]);
-        let answer = Both.narrow(set, &dictionary, &mut list, MOST_LINES, b"QS10000");
+        let answer = Both.narrow(set, &dictionary, &mut list, MOST_LINES, First, b"QS10000");
         assert_eq!(answer, [0, 0, 21_845, 43_690]);
         assert_eq!((list[0], list[21_844], list[21_845]), (3, 65_535, 0));
-        let answer = Both.narrow(set, &dictionary, &mut list, 21_845, b"QT");
+        let answer = Both.narrow(set, &dictionary, &mut list, 21_845, First, b"QT");
         assert_eq!(answer, [0, 0, 0, 21_845]);
 
         let over = [dictionary, b"\n".to_vec()].concat();
         assert_eq!(Both.open(set, &over, &mut list), [14, 0, 0]);
-        assert_eq!(Both.narrow(set, &over, &mut list, 0, b"Q"), [14, 0, 0, 0]);
+        assert_eq!(
+            Both.narrow(set, &over, &mut list, 0, First, b"Q"),
+            [14, 0, 0, 0]
+        );
         assert_eq!(
             Both.open(set, &over[..over.len() - 2], &mut list),
             [12, 0, 0]
@@ -192,8 +219,8 @@ fn noise_as_a_dictionary() {
         let sought = noise(random, 5);
         for set in BOTH_SETS {
             Both.open(set, &dictionary, &mut list.clone());
-            Both.narrow(set, &dictionary, &mut list, count, b"Q");
-            Both.narrow(set, &dictionary, &mut list, count, &sought);
+            Both.narrow(set, &dictionary, &mut list, count, First, b"Q");
+            Both.narrow(set, &dictionary, &mut list, count, First, &sought);
         }
     });
 }

@@ -1,13 +1,13 @@
 //! What the wrapper says of each refusal, and that each reaches the caller with the number and
-//! the place of document 01, "Refusal numbers", and of document 02, Q-1.
+//! the place of document 01, "Refusal numbers", and of document 02, Q-1 and Q-9.
 
 use differential::generate::in_swu;
-use halofret::{raw, Charset, Refusal};
+use halofret::{raw, Charset, Edition, Refusal};
 use std::ptr;
 
 static SIZES: [u8; 125_184] = [9; 125_184];
 
-/// What each sentence says, by number; the place is 7.
+/// What each sentence says, by number from 1; the place is 7.
 const SAID: [&[&str]; 19] = [
     &["text is wrong", "byte offset 7"],
     &["stops too early", "7 bytes"],
@@ -30,9 +30,13 @@ const SAID: [&[&str]; 19] = [
     &["more than 64 symbol styles"],
 ];
 
+/// Numbers that stand apart, in the same way.
+const SAID_APART: [(u8, &[&str]); 1] =
+    [(22, &["item of the query", "more than eight alternatives"])];
+
 #[test]
 fn each_sentence_says_its_refusal() {
-    for (number, said) in (1..).zip(SAID) {
+    for (number, said) in (1..).zip(SAID).chain(SAID_APART) {
         let sentence = Refusal { number, place: 7 }.to_string();
         assert!(sentence.ends_with('.'), "{sentence}");
         for part in said {
@@ -63,7 +67,7 @@ fn refused<T>(answer: Result<T, Refusal>) -> (u8, usize) {
 fn each_refusal_reaches_the_caller() {
     let set = Charset::Fsw;
     let read = |text: &str| refused(halofret::read(set, text.as_bytes()));
-    let query = |text: &str| refused(halofret::read_query(text.as_bytes()));
+    let query = |text: &str| refused(halofret::read_query(Edition::First, text.as_bytes()));
     assert_eq!(read("M749x750"), (1, 5));
     assert_eq!(read("M250x25"), (2, 7));
     assert_eq!(read(&format!("A{}M500x500", "S10000".repeat(33))), (3, 0));
@@ -96,7 +100,10 @@ fn each_refusal_of_a_dictionary_reaches_the_caller() {
     let set = Charset::Fsw;
     let open = |dictionary: &[u8]| refused(halofret::open(set, dictionary, &mut [0; 2]));
     let narrow = |list: &mut [u16], count, query: &[u8]| {
-        refused(halofret::narrow(set, b"M500x500\nM\n", list, count, query))
+        let (dictionary, edition) = (b"M500x500\nM\n", Edition::First);
+        refused(halofret::narrow(
+            set, dictionary, list, count, edition, query,
+        ))
     };
     assert_eq!(open(b"M500x500\nM500x500\nM500x500\n"), (6, 3));
     assert_eq!(narrow(&mut [1], 2, b"Q"), (11, 0));
@@ -110,6 +117,29 @@ fn each_refusal_of_a_dictionary_reaches_the_caller() {
     let fetch = |number| refused(halofret::fetch(b"M\n", b"M\n", number));
     assert_eq!([0, 1, 2, 3].map(fetch), [(16, 0), (0, 0), (0, 0), (16, 0)]);
     assert_eq!(refused(halofret::fetch(b"M\n", b"M", 1)), (12, 0));
+}
+
+#[test]
+fn crowded_items_reach_the_caller() {
+    let set = Charset::Fsw;
+    let second = Edition::Second(set);
+    let item = |alternatives| format!("Q{}", vec!["S10000"; alternatives].join("o")).into_bytes();
+    let (eight, nine) = (item(8), item(9));
+    let sign = b"M500x500S10000500x500";
+    let line = [&sign[..], b"\n"].concat();
+    assert_eq!(refused(halofret::read_query(second, &eight)), (0, 0));
+    assert_eq!(refused(halofret::read_query(second, &nine)), (22, 0));
+    assert_eq!(
+        refused(halofret::verdict(set, second, &eight, sign)),
+        (0, 0)
+    );
+    assert_eq!(
+        refused(halofret::verdict(set, second, &nine, sign)),
+        (22, 0)
+    );
+    let narrow = |query| refused(halofret::narrow(set, &line, &mut [1], 1, second, query));
+    assert_eq!((narrow(&eight), narrow(&nine)), ((0, 0), (22, 0)));
+    assert_eq!(refused(halofret::read_query(Edition::First, &nine)), (1, 7));
 }
 
 #[test]
@@ -172,16 +202,22 @@ fn empty_slices() {
             refused(halofret::transcribe_styled(set, &[], &mut [])),
             (2, 0)
         );
-        assert_eq!(refused(halofret::verdict(set, b"Q", &[])), (2, 0));
         assert_eq!(halofret::open(set, &[], &mut []), Ok(0));
-        let narrowed = halofret::narrow(set, &[], &mut [], 0, b"Q").unwrap();
-        assert_eq!((narrowed.kept, narrowed.dropped), (0, 0));
+        for edition in differential::EDITIONS {
+            let verdict = |query, text| refused(halofret::verdict(set, edition, query, text));
+            assert_eq!(verdict(b"Q", &[]), (2, 0));
+            assert_eq!(verdict(&[], b"x"), (2, 0));
+            let narrowed = halofret::narrow(set, &[], &mut [], 0, edition, b"Q").unwrap();
+            assert_eq!((narrowed.kept, narrowed.dropped), (0, 0));
+        }
+    }
+    for edition in differential::EDITIONS {
+        assert_eq!(refused(halofret::read_query(edition, &[])), (2, 0));
     }
     assert_eq!(refused(halofret::key_to_code(&[])), (2, 0));
     assert_eq!(refused(halofret::char_to_code(&[])), (2, 0));
     assert_eq!(refused(halofret::code_to_key(26, &mut [])), (6, 6));
     assert_eq!(refused(halofret::code_to_char(26, &mut [])), (6, 4));
-    assert_eq!(refused(halofret::read_query(&[])), (2, 0));
     assert_eq!(refused(halofret::fetch(&[], &[], 1)), (16, 0));
 }
 
@@ -189,7 +225,6 @@ fn empty_slices() {
 #[test]
 fn null_pointers() {
     let (none, no_bytes, no_list) = (ptr::null(), ptr::null_mut(), ptr::null_mut());
-    let query = b"Q";
     let (mut three, mut four, mut two) = ([9; 3], [9; 4], [9; 2]);
     let (mut sign, mut centre, mut nineteen) = ([9; raw::HALOFRET_SIGN], [9.0; 2], [9; 19]);
     // SAFETY: a null pointer goes with length 0, every other with its own length.
@@ -214,10 +249,29 @@ fn null_pointers() {
         assert_eq!((nineteen[0], centre), (7, [9.0; 2]));
         raw::halofret_open(false, none, 0, no_list, 0, &mut three);
         assert_eq!(three, [0, 0, 0]);
-        raw::halofret_narrow(false, none, 0, no_list, 0, 0, query.as_ptr(), 1, &mut four);
-        assert_eq!(four, [0, 0, 0, 0]);
         raw::halofret_fetch(none, 0, b"M\n".as_ptr(), 2, 1, &mut four);
         assert_eq!(four, [0, 1, 0, 1]);
+    }
+}
+
+#[test]
+fn null_pointers_of_queries() {
+    let (none, no_list, query) = (ptr::null(), ptr::null_mut(), b"Q".as_ptr());
+    let (mut two, mut four, mut verdict) = ([9; 2], [9; 4], [9; 36]);
+    for (second, query_swu) in [(false, false), (false, true), (true, false), (true, true)] {
+        // SAFETY: as above.
+        unsafe {
+            raw::halofret_read_query(second, query_swu, none, 0, &mut two);
+            assert_eq!(two, [2, 0]);
+            let (swu, answer) = (false, &mut verdict);
+            raw::halofret_verdict(swu, second, query_swu, query, 1, none, 0, answer);
+            assert_eq!(verdict[..4], [2, 0, 0, 0]);
+            let (dict, list, answer) = (none, no_list, &mut four);
+            raw::halofret_narrow(
+                swu, dict, 0, list, 0, 0, second, query_swu, query, 1, answer,
+            );
+            assert_eq!(four, [0, 0, 0, 0]);
+        }
     }
 }
 

@@ -1,11 +1,13 @@
-//! A wrong coordinate number is refused at its first byte, in FSW signs and in queries (document
-//! 02, Q-5). All other places go byte by byte, in SWU group by group.
+//! A wrong coordinate number is refused at its first byte, in FSW signs and in FSW queries of both
+//! editions (document 02, Q-5). All other places go byte by byte, in SWU signs group by group.
 
 use differential::both::shown;
+use differential::editions::query_of_in;
 use differential::generate::{in_swu, query, short_sign};
-use differential::{cases, Both, Charset, Interface, Random};
+use differential::{cases, Both, Charset, Edition, Interface, Random};
 use reference::Refusal;
 use Charset::{Fsw, Swu};
+use Edition::{First, Second};
 
 const SIGNS: [(&str, [u64; 2]); 13] = [
     ("M749x750", [1, 5]),
@@ -43,7 +45,10 @@ fn worked_answers() {
         assert_eq!(Both.read(Fsw, text.as_bytes()).1, expected, "{text}");
     }
     for (text, expected) in QUERIES {
-        assert_eq!(Both.read_query(text.as_bytes()), expected, "{text}");
+        for edition in [First, Second(Fsw)] {
+            let answer = Both.read_query(edition, text.as_bytes());
+            assert_eq!(answer, expected, "{text}");
+        }
     }
     assert_eq!(Both.key_to_code(b"S38c00"), [1, 3, 0]);
     assert_eq!(Both.key_to_code(b"S38b60"), [1, 4, 0]);
@@ -59,16 +64,22 @@ fn every_entry_tells_the_place() {
     assert_eq!(Both.boxes(Fsw, text, &sizes).1[..3], [1, 18, 0]);
     assert_eq!(Both.shift(Fsw, text, (1, 1), out), [1, 18, 0]);
     assert_eq!(Both.centred(Fsw, text, &sizes, out), [1, 18, 0]);
-    assert_eq!(Both.verdict(Fsw, b"Q", text)[..3], [1, 18, 0]);
-    let sought = b"QS10000500x500S20500490x5x0";
-    assert_eq!(Both.read_query(sought), [1, 24]);
+    assert_eq!(Both.verdict(Fsw, First, b"Q", text)[..3], [1, 18, 0]);
+    every_entry_tells_the_place_of(First, b"QS10000500x500S20500490x5x0");
+    every_entry_tells_the_place_of(Second(Fsw), b"QS10000500x500S20500490x5x0");
+    every_entry_tells_the_place_of(Second(Fsw), b"QS10000S10000oS20500490x8");
+}
+
+/// The second number of the query's last coordinate, at 24, is wrong.
+fn every_entry_tells_the_place_of(edition: Edition, sought: &[u8]) {
+    assert_eq!(Both.read_query(edition, sought), [1, 24]);
     for (set, sign) in [
         (Fsw, b"M500x500".to_vec()),
         (Swu, in_swu(b"M500x500").unwrap()),
     ] {
-        assert_eq!(Both.verdict(set, sought, &sign)[..3], [1, 24, 0]);
+        assert_eq!(Both.verdict(set, edition, sought, &sign)[..3], [1, 24, 0]);
         let dictionary = [&sign[..], b"\n"].concat();
-        let answer = Both.narrow(set, &dictionary, &mut [1], 1, sought);
+        let answer = Both.narrow(set, &dictionary, &mut [1], 1, edition, sought);
         assert_eq!(answer, [1, 24, 0, 0]);
     }
 }
@@ -95,7 +106,13 @@ fn begins_sign(text: &[u8]) -> bool {
 }
 
 fn begins_query(text: &[u8]) -> bool {
-    let answer = reference::read_query(text);
+    let answer = reference::read_query(reference::Edition::First, text);
+    !matches!(answer, Err(Refusal { number: 1, .. }))
+}
+
+fn begins_second_query(text: &[u8]) -> bool {
+    let edition = reference::Edition::Second(reference::Charset::Fsw);
+    let answer = reference::read_query(edition, text);
     !matches!(answer, Err(Refusal { number: 1, .. }))
 }
 
@@ -140,17 +157,23 @@ fn damages(random: &mut Random, text: &[u8]) -> Vec<Vec<u8>> {
 
 #[test]
 fn places_move_inside_numbers_alone() {
-    let (mut in_signs, mut in_queries) = (Moved::default(), Moved::default());
+    let (mut in_signs, mut in_queries) = (Moved::default(), [(); 2].map(|()| Moved::default()));
     cases(600_000, 300, |random| {
         let (sign, query) = (short_sign(random), query(random));
+        let (prefix, items) = (random.below(3), random.between(3, 8));
+        let second = query_of_in(random, Second(Fsw), prefix, items);
         for text in damages(random, &sign) {
             in_signs.check(&text, Both.read(Fsw, &text).1, begins_sign);
         }
         for text in damages(random, &query) {
-            in_queries.check(&text, Both.read_query(&text), begins_query);
+            in_queries[0].check(&text, Both.read_query(First, &text), begins_query);
+        }
+        for text in damages(random, &second) {
+            let answer = Both.read_query(Second(Fsw), &text);
+            in_queries[1].check(&text, answer, begins_second_query);
         }
     });
-    for moved in [in_signs, in_queries] {
+    for moved in [&in_signs].into_iter().chain(&in_queries) {
         assert!(moved.0.iter().all(|&times| times > 1_000), "{moved:?}");
     }
 }

@@ -1,17 +1,18 @@
-//! Reading queries, and verdicts.
+//! Reading queries of the first edition, and verdicts by them.
 
 use differential::damage::{damaged, noise};
 use differential::generate::{in_swu, query, query_about, query_of, short_sign, sign};
-use differential::{cases, Both, Charset, Interface, Random, Tally, BOTH_SETS};
+use differential::{cases, Both, Charset, Edition, Interface, Random, Tally, BOTH_SETS};
+use Edition::First;
 
 #[test]
 fn good_and_damaged_queries() {
     let mut tally = Tally::default();
     cases(200_000, 200_000, |random| {
         let text = query(random);
-        tally.note(Both.read_query(&text)[0]);
-        tally.note(Both.read_query(&damaged(random, &text))[0]);
-        Both.read_query(&noise(random, 30));
+        tally.note(Both.read_query(First, &text)[0]);
+        tally.note(Both.read_query(First, &damaged(random, &text))[0]);
+        Both.read_query(First, &noise(random, 30));
     });
     tally.expect(&[0, 1, 2, 3, 4, 5]);
 }
@@ -24,13 +25,13 @@ fn every_byte_at_every_place() {
         b"QV20",
         b"QR204t205",
     ] {
-        assert_eq!(Both.read_query(text), [0, 0]);
+        assert_eq!(Both.read_query(First, text), [0, 0]);
         for place in 0..text.len() {
             for byte in 0..=255 {
                 let mut changed = text.to_vec();
                 changed[place] = byte;
-                Both.read_query(&changed);
-                Both.read_query(&changed[..=place]);
+                Both.read_query(First, &changed);
+                Both.read_query(First, &changed[..=place]);
             }
         }
     }
@@ -42,14 +43,14 @@ fn limits() {
     for prefix in [0, 1, 31, 32, 33, 34, 80] {
         for items in [0, 1, 31, 32, 33, 34, 80] {
             let text = query_of(&mut random, prefix, items);
-            let number = Both.read_query(&text)[0];
+            let number = Both.read_query(First, &text)[0];
             match (prefix, items) {
                 (33.., _) => assert_eq!(number, 3),
                 (_, 33..) => assert_eq!(number, 4),
                 _ => assert!(number == 0 || number == 5),
             }
             for _ in 0..60 {
-                Both.read_query(&damaged(&mut random, &text));
+                Both.read_query(First, &damaged(&mut random, &text));
             }
         }
     }
@@ -63,7 +64,7 @@ fn every_variance() {
             for variance in 0..10_usize.pow(digits) {
                 let width = digits as usize;
                 let query = format!("QS10000500x{}V{variance:0width$}", 500 + distance);
-                let answer = Both.verdict(Charset::Fsw, query.as_bytes(), sign);
+                let answer = Both.verdict(Charset::Fsw, First, query.as_bytes(), sign);
                 assert_eq!(answer[2] == 1, distance <= variance, "{query}");
             }
         }
@@ -72,11 +73,11 @@ fn every_variance() {
 
 /// A verdict, which must be the same for the transcribed sign.
 fn verdict(random: &mut Random, query: &[u8], fsw: &[u8]) -> [u64; 36] {
-    let answer = Both.verdict(Charset::Fsw, query, fsw);
+    let answer = Both.verdict(Charset::Fsw, First, query, fsw);
     if let Some(swu) = in_swu(fsw) {
-        assert_eq!(answer, Both.verdict(Charset::Swu, query, &swu));
+        assert_eq!(answer, Both.verdict(Charset::Swu, First, query, &swu));
         if random.once_in(4) {
-            Both.verdict(Charset::Swu, query, &damaged(random, &swu));
+            Both.verdict(Charset::Swu, First, query, &damaged(random, &swu));
         }
     }
     answer
@@ -134,8 +135,8 @@ fn noise_as_query_and_sign() {
     cases(510_000, 40_000, |random| {
         let (sought, text) = (noise(random, 12), noise(random, 12));
         for set in BOTH_SETS {
-            Both.verdict(set, &sought, &text);
-            Both.verdict(set, b"Q", &text);
+            Both.verdict(set, First, &sought, &text);
+            Both.verdict(set, First, b"Q", &text);
         }
     });
 }

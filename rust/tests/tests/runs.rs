@@ -1,14 +1,28 @@
 //! Whole runs of narrowing calls (document 01, "The dictionary and its list"): the final list
 //! is stated from the dictionary and the accepted queries; a reordering and the rewritten
-//! dictionary end alike.
+//! dictionary end alike. A run may mix editions (document 02, Q-9).
 
 use differential::damage::{damaged, noise};
-use differential::generate::{dictionary, query, query_about, short_sign, wide_query};
-use differential::{cases, Both, Charset, Interface, Random};
+use differential::editions::{query_about_in, query_in, wide_query_in};
+use differential::generate::{dictionary, short_sign};
+use differential::{cases, Both, Charset, Edition, Interface, Random, EDITIONS};
 use Charset::{Fsw, Swu};
+use Edition::{First, Second};
 
 /// List memory beyond the line count, which nothing may change.
 const BEYOND: [u16; 3] = [11_111, 0, 22_222];
+
+/// A query of a run, which keeps its edition wherever it stands.
+#[derive(Clone)]
+struct Asked {
+    edition: Edition,
+    text: Vec<u8>,
+}
+
+fn asked(edition: Edition, text: impl AsRef<[u8]>) -> Asked {
+    let text = text.as_ref().to_vec();
+    Asked { edition, text }
+}
 
 /// What a run leaves.
 #[derive(Debug, PartialEq)]
@@ -20,7 +34,7 @@ struct Outcome {
 }
 
 /// Opens the dictionary and narrows by each query in turn.
-fn run(set: Charset, dictionary: &[u8], lines: usize, queries: &[&[u8]]) -> Outcome {
+fn run(set: Charset, dictionary: &[u8], lines: usize, queries: &[Asked]) -> Outcome {
     let mut list = vec![33_333; lines];
     list.extend(BEYOND);
     assert_eq!(
@@ -34,8 +48,9 @@ fn run(set: Charset, dictionary: &[u8], lines: usize, queries: &[&[u8]]) -> Outc
         dropped: 0,
         kept: lines,
     };
-    for query in queries {
-        let answer = Both.narrow(set, dictionary, &mut outcome.list, outcome.kept, query);
+    for Asked { edition, text } in queries {
+        let (list, count) = (&mut outcome.list, outcome.kept);
+        let answer = Both.narrow(set, dictionary, list, count, *edition, text);
         if answer[0] == 0 {
             outcome.kept = answer[2] as usize;
         }
@@ -46,14 +61,13 @@ fn run(set: Charset, dictionary: &[u8], lines: usize, queries: &[&[u8]]) -> Outc
 }
 
 /// The entries that meet all accepted queries, then zeros to the line count, then what was there.
-fn stated_list(dictionary: &[u8], lines: usize, queries: &[&[u8]]) -> Vec<u16> {
-    let accepted: Vec<&[u8]> = queries
+fn stated_list(dictionary: &[u8], lines: usize, queries: &[Asked]) -> Vec<u16> {
+    let accepted: Vec<&Asked> = queries
         .iter()
-        .copied()
-        .filter(|query| Both.read_query(query)[0] == 0)
+        .filter(|query| Both.read_query(query.edition, &query.text)[0] == 0)
         .collect();
     let meets_all = |line: &[u8]| {
-        let met = |query: &&[u8]| Both.verdict(Fsw, query, line)[2] == 1;
+        let met = |query: &&Asked| Both.verdict(Fsw, query.edition, &query.text, line)[2] == 1;
         accepted.iter().all(met)
     };
     let mut list: Vec<u16> = dictionary
@@ -68,25 +82,34 @@ fn stated_list(dictionary: &[u8], lines: usize, queries: &[&[u8]]) -> Vec<u16> {
     list
 }
 
-/// Queries of all kinds, some of them more than once.
-fn queries(random: &mut Random) -> Vec<Vec<u8>> {
-    let mut queries: Vec<Vec<u8>> = (0..random.below(7))
-        .map(|_| match random.below(8) {
-            0 => noise(random, 6),
-            1 => query(random),
-            2 => {
-                let sought = wide_query(random);
-                damaged(random, &sought)
-            }
-            3 => {
-                let sign = short_sign(random);
-                query_about(random, &sign)
-            }
-            _ => wide_query(random),
-        })
-        .collect();
+/// A query of any kind in any edition.
+fn any_asked(random: &mut Random) -> Asked {
+    let edition = *random.pick(&EDITIONS);
+    let text = match random.below(8) {
+        0 => noise(random, 6),
+        1 => query_in(random, edition),
+        2 => {
+            let sought = wide_query_in(random, edition);
+            damaged(random, &sought)
+        }
+        3 => {
+            let sign = short_sign(random);
+            query_about_in(random, edition, &sign)
+        }
+        _ => wide_query_in(random, edition),
+    };
+    Asked { edition, text }
+}
+
+/// Queries of all kinds, some of them more than once, now and then in another edition.
+fn queries(random: &mut Random) -> Vec<Asked> {
+    let mut queries: Vec<Asked> = (0..random.below(7)).map(|_| any_asked(random)).collect();
     if !queries.is_empty() && random.once_in(3) {
-        queries.push(random.pick(&queries).clone());
+        let mut again = random.pick(&queries).clone();
+        if random.once_in(2) {
+            again.edition = *random.pick(&EDITIONS);
+        }
+        queries.push(again);
     }
     queries
 }
@@ -112,7 +135,6 @@ fn runs() {
         let [fsw, swu] = dictionary(random, lines);
         assert_eq!(rewritten(&fsw), swu);
         let queries = queries(random);
-        let mut queries: Vec<&[u8]> = queries.iter().map(Vec::as_slice).collect();
 
         let outcome = run(Fsw, &fsw, lines, &queries);
         assert_eq!(outcome.list, stated_list(&fsw, lines, &queries));
@@ -120,12 +142,15 @@ fn runs() {
         assert_eq!(outcome, run(Swu, &swu, lines, &queries));
         narrowed += usize::from(outcome.dropped > 0 && outcome.kept > 0);
 
-        let refusals = by_query(&queries, &outcome);
-        random.shuffle(&mut queries);
-        let reordered = run(Fsw, &fsw, lines, &queries);
+        let mut order: Vec<usize> = (0..queries.len()).collect();
+        random.shuffle(&mut order);
+        let reordered: Vec<Asked> = order.iter().map(|&i| queries[i].clone()).collect();
+        let reordered = run(Fsw, &fsw, lines, &reordered);
         assert_eq!(reordered.list, outcome.list);
         assert_eq!(reordered.dropped, outcome.dropped);
-        assert_eq!(by_query(&queries, &reordered), refusals);
+        for (answer, &index) in reordered.answers.iter().zip(&order) {
+            assert_eq!(answer[..2], outcome.answers[index][..2]);
+        }
     });
     assert!(
         narrowed > 1_500,
@@ -133,29 +158,26 @@ fn runs() {
     );
 }
 
-/// The refusal that each query got, in an order that does not depend on the run's.
-fn by_query<'a>(queries: &[&'a [u8]], outcome: &Outcome) -> Vec<(&'a [u8], u64, u64)> {
-    let pairs = queries.iter().zip(&outcome.answers);
-    let mut refusals: Vec<_> = pairs
-        .map(|(query, answer)| (*query, answer[0], answer[1]))
-        .collect();
-    refusals.sort();
-    refusals
-}
-
-/// Every order of a few queries over one dictionary.
+/// Every order of a few queries over one dictionary. One text is asked in two editions, of which
+/// only the second accepts it.
 #[test]
 fn every_reordering() {
     let mut random = Random::new(720_000);
     let [fsw, swu] = dictionary(&mut random, 300);
-    let mut queries: [&[u8]; 5] = [
-        b"QT",
-        b"QR100t2fe",
-        b"Q!",
-        b"QS100uu500x500V60",
-        b"QR204t100",
+    let mut queries = [
+        asked(First, "QT"),
+        asked(First, "QS100uuoR205t2fe"),
+        asked(Second(Fsw), "QS100uuoR205t2fe"),
+        asked(Second(Swu), "Q\u{40001}fro\u{40061}fr\u{1d906}\u{1d906}V90"),
+        asked(Second(Swu), "QR\u{46001}\u{40001}"),
     ];
     let expected = run(Fsw, &fsw, 300, &queries);
+    let refusals = expected.answers.iter().map(|answer| (answer[0], answer[1]));
+    assert!(refusals.eq([(0, 0), (1, 7), (0, 0), (0, 0), (5, 1)]));
+    assert!(expected.kept > 0, "the run keeps some");
+    for [_, _, kept, dropped] in [0, 2, 3].map(|accepted| expected.answers[accepted]) {
+        assert!(kept > 0 && dropped > 0, "each query drops some");
+    }
     let mut orders = 0;
     each_order(&mut queries, 0, &mut |queries| {
         let outcome = run(Fsw, &fsw, 300, queries);
@@ -173,7 +195,14 @@ fn a_long_dictionary() {
     let mut random = Random::new(730_000);
     let lines = 20_000;
     let [fsw, swu] = dictionary(&mut random, lines);
-    let mut queries: [&[u8]; 6] = [b"Q", b"QR100t2fe", b"Q-", b"QTV0", b"QS10000", b"QR100t204"];
+    let mut queries = [
+        asked(First, "Q"),
+        asked(First, "QR100t2fe"),
+        asked(Second(Fsw), "Q-"),
+        asked(Second(Swu), "QTV0"),
+        asked(Second(Fsw), "QS10000oS2ff00oS1000f"),
+        asked(First, "QR100t204"),
+    ];
     let outcome = run(Fsw, &fsw, lines, &queries);
     assert_eq!(outcome.list, stated_list(&fsw, lines, &queries));
     assert!(outcome.kept > 0);

@@ -7,7 +7,7 @@ use differential::interface::{StylingNumbers, OFFSETS};
 use differential::stylings::{
     damaged_from, short_styling, sign_to_style, styling, styling_of, TELLING,
 };
-use differential::{cases, Both, Charset, Interface, Random, Tally, BOTH_SETS};
+use differential::{cases, Both, Charset, Edition, Interface, Random, Tally, BOTH_SETS};
 use Charset::{Fsw, Swu};
 
 /// Reads and transcribes a text with rooms about the length it needs; answers the refusal number.
@@ -295,13 +295,16 @@ fn no_other_entry_takes_a_styling() {
         assert_eq!(Both.shift(set, &text, (1, 1), &mut out), refused);
         assert_eq!(Both.centred(set, &text, &sizes, &mut out), refused);
         assert_eq!(Both.boxes(set, &text, &sizes).1[..2], [1, dash]);
-        assert_eq!(Both.verdict(set, b"Q", &text)[..2], [1, dash]);
+        assert_eq!(
+            Both.verdict(set, Edition::First, b"Q", &text)[..2],
+            [1, dash]
+        );
         let plain = &text[..dash as usize];
         let dictionary = [plain, b"\n", &text, b"\n"].concat();
         let mut list = [7; 3];
         assert_eq!(Both.open(set, &dictionary, &mut list), [13, 2, 0]);
         let mut list = [2];
-        let answer = Both.narrow(set, &dictionary, &mut list, 1, b"Q");
+        let answer = Both.narrow(set, &dictionary, &mut list, 1, Edition::First, b"Q");
         assert_eq!((answer, list), ([13, 2, 0, 0], [2]));
     }
 }

@@ -1,10 +1,11 @@
 //! The worked examples of document 01 and of its open points, by all sides. Places in numbers are
-//! those of document 02, Q-5, and offsets those of its Q-8.
+//! those of document 02, Q-5, and offsets those of its Q-8. Queries are of the first edition.
 
 use differential::generate::in_swu;
 use differential::interface;
-use differential::{Both, Charset, Interface};
+use differential::{Both, Charset, Edition, Interface};
 use Charset::{Fsw, Swu};
+use Edition::First;
 
 const K: &[u8] = b"AS10000S20500M510x515S10000490x485S20500500x495";
 
@@ -41,14 +42,17 @@ fn offsets_in_both(fsw: &[u8]) -> [[Vec<u16>; 2]; 2] {
 }
 
 fn query(text: impl AsRef<[u8]>) -> Refusal {
-    refusal(&Both.read_query(text.as_ref()))
+    refusal(&Both.read_query(First, text.as_ref()))
 }
 
 /// Refusal, place, met, unmet condition and the first two witnesses.
 fn verdict(query: &str, sign: impl AsRef<[u8]>) -> [u64; 6] {
-    let answer = Both.verdict(Fsw, query.as_bytes(), sign.as_ref());
+    let answer = Both.verdict(Fsw, First, query.as_bytes(), sign.as_ref());
     let transcribed = in_swu(sign.as_ref()).expect("the sign reads");
-    assert_eq!(answer, Both.verdict(Swu, query.as_bytes(), &transcribed));
+    assert_eq!(
+        answer,
+        Both.verdict(Swu, First, query.as_bytes(), &transcribed)
+    );
     answer[..6].try_into().unwrap()
 }
 
@@ -249,9 +253,12 @@ fn verdicts() {
 
 #[test]
 fn verdict_refuses_the_query_first() {
-    assert_eq!(refusal(&Both.verdict(Fsw, b"Qx", b"x")), (1, 1));
-    assert_eq!(refusal(&Both.verdict(Fsw, b"Q", b"x")), (1, 0));
-    assert_eq!(refusal(&Both.verdict(Fsw, b"QR204t100", b"x")), (5, 1));
+    assert_eq!(refusal(&Both.verdict(Fsw, First, b"Qx", b"x")), (1, 1));
+    assert_eq!(refusal(&Both.verdict(Fsw, First, b"Q", b"x")), (1, 0));
+    assert_eq!(
+        refusal(&Both.verdict(Fsw, First, b"QR204t100", b"x")),
+        (5, 1)
+    );
 }
 
 #[test]
@@ -356,21 +363,21 @@ fn opening_and_narrowing() {
     assert_eq!(Both.open(Fsw, DICTIONARY, &mut list), [0, 0, 3]);
     assert_eq!(list, [1, 2, 3, 7, 7]);
     assert_eq!(
-        Both.narrow(Fsw, DICTIONARY, &mut list, 3, b"QS20500"),
+        Both.narrow(Fsw, DICTIONARY, &mut list, 3, First, b"QS20500"),
         [0, 0, 2, 1]
     );
     assert_eq!(list, [2, 3, 0, 7, 7]);
     assert_eq!(
-        Both.narrow(Fsw, DICTIONARY, &mut list, 2, b"Qx"),
+        Both.narrow(Fsw, DICTIONARY, &mut list, 2, First, b"Qx"),
         [1, 1, 0, 0]
     );
     assert_eq!(
-        Both.narrow(Fsw, DICTIONARY, &mut list, 2, b"QS10000"),
+        Both.narrow(Fsw, DICTIONARY, &mut list, 2, First, b"QS10000"),
         [0, 0, 1, 1]
     );
     assert_eq!(list, [2, 0, 0, 7, 7]);
     assert_eq!(
-        Both.narrow(Fsw, DICTIONARY, &mut list, 0, b"Q"),
+        Both.narrow(Fsw, DICTIONARY, &mut list, 0, First, b"Q"),
         [0, 0, 0, 0]
     );
     assert_eq!(Both.open(Fsw, DICTIONARY, &mut list[..2]), [6, 3, 0]);
@@ -384,7 +391,7 @@ fn opening_and_narrowing() {
 fn narrowing_refuses_in_order() {
     let narrow = |dictionary: &[u8], list: &[u16], count, query: &str| {
         let mut lent = list.to_vec();
-        let answer = Both.narrow(Fsw, dictionary, &mut lent, count, query.as_bytes());
+        let answer = Both.narrow(Fsw, dictionary, &mut lent, count, First, query.as_bytes());
         refusal(&answer)
     };
     assert_eq!(narrow(b"x", &[], 9, "Qx"), (1, 1));

@@ -1,5 +1,6 @@
 use Prim.Native.Nat.{_+_, _-_, _<_}
 use mathlib.Core.Path.{_≡_, refl}
+use mathlib.Core.List.{map}
 use native.Mathlib.Omega.{arith}
 use lib.ListN.{length}
 use borrow.Author.Needs.{needs}
@@ -7,13 +8,14 @@ use Rattle.lines.specs.Lines.{lines}
 use Rattle.lines.proofs.Starts.{Line, start-within}
 use Rattle.narrowing.specs.Run.{run}
 use Rattle.dictionary.specs.Narrowing.{narrowed}
+use Rattle.runs.specs.Runs.{asking}
 use Rattle.runs.proofs.Running.{Running, running-start, running-end, running-line, running-dropped, running-more}
 use Rattle.runs.proofs.narrow_each.Statement.{statement}
 use Rattle.runs.proofs.narrow_each.Tie as tie
 
 abbrev Inv-loop : tie.InvT-loop
 Inv-loop set dict list₀ n queries calls kept₀ dropped₀ start₀ made₀ list kept dropped start made =
-    Running (narrowed set dict) queries (run (narrowed set dict) (lines queries) list₀ n) list kept dropped start made × (length list ≡ length list₀)
+    Running (narrowed set dict) queries (run (narrowed set dict) (map asking (lines queries)) list₀ n) list kept dropped start made × (length list ≡ length list₀)
 
 abbrev μ-loop : tie.MeasureT-loop
 μ-loop set dict list₀ n queries calls kept₀ dropped₀ start₀ made₀ list kept dropped start made =
@@ -35,26 +37,32 @@ asked c = omega (arith, c .before .before .before .count .ensures)
 here : (c : tie.After-line-end Inv-loop μ-loop) → Line (c .before .before .before .before .before .before .before .args .queries .now) (c .before .before .loop .made + 1) (c .before .before .loop .start) (c .line-end .result)
 here c = running-line (c .before .before .loop .inv .0) (asked c) _ (c .line-end .ensures)
 
-sub-narrow : tie.Need-sub-narrow Inv-loop μ-loop
-sub-narrow c = omega (arith, here (c .before) .low)
+sub-line : tie.Need-sub-line Inv-loop μ-loop
+sub-line c = omega (arith, here c .low)
 
-part-narrow-start : tie.Need-part-narrow-start Inv-loop μ-loop
-part-narrow-start c = omega (arith, here (c .before) .low)
+part-line-start : tie.Need-part-line-start Inv-loop μ-loop
+part-line-start c = omega (arith, here c .low)
 
-part-narrow-end : tie.Need-part-narrow-end Inv-loop μ-loop
-part-narrow-end c = omega (arith, here (c .before) .high)
+part-line-end : tie.Need-part-line-end Inv-loop μ-loop
+part-line-end c = omega (arith, here c .high)
+
+edition-of-requires : tie.Need-edition-of-requires Inv-loop μ-loop
+edition-of-requires c κs = search needs
+
+query-of-requires : tie.Need-query-of-requires Inv-loop μ-loop
+query-of-requires c κs = search needs
 
 narrow-requires : tie.Need-narrow-requires Inv-loop μ-loop
 narrow-requires c κs = search needs
 
 add-dropped : tie.Need-add-dropped Inv-loop μ-loop
-add-dropped c = omega (arith, running-dropped (c .before .before .before .before .before .before .before .loop .inv .0) (asked (c .before .before .before .before .before)) (here (c .before .before .before .before .before)) _ _ (c .before .before .narrow .ensures), c .before .before .before .before .before .before .before .before .before .before .before .before .pre)
+add-dropped c = omega (arith, running-dropped (c .before .before .before .before .before .before .before .before .before .loop .inv .0) (asked (c .before .before .before .before .before .before .before)) (here (c .before .before .before .before .before .before .before)) _ _ (c .before .before .before .before .before .edition-of .ensures) (c .before .before .before .query-of .ensures) (c .before .before .narrow .ensures), c .before .before .before .before .before .before .before .before .before .before .before .before .before .before .pre)
 
 next-count-requires : tie.Need-next-count-requires Inv-loop μ-loop
 next-count-requires c κs = search needs
 
 add-start : tie.Need-add-start Inv-loop μ-loop
-add-start c = omega (arith, here (c .before .before .before .before .before .before) .high)
+add-start c = omega (arith, here (c .before .before .before .before .before .before .before .before) .high)
 
 add-made : tie.Need-add-made Inv-loop μ-loop
 add-made c = omega arith
@@ -63,7 +71,7 @@ loop-less : tie.Need-loop-less Inv-loop μ-loop
 loop-less c = omega arith
 
 loop-again : tie.Need-loop-again Inv-loop μ-loop
-loop-again c = (running-more (c .before .before .before .before .before .before .before .before .loop .inv .0) (asked (c .before .before .before .before .before .before)) (here (c .before .before .before .before .before .before)) _ _ (c .before .before .before .narrow .ensures) _ (c .next-count .ensures), omega arith)
+loop-again c = (running-more (c .before .before .before .before .before .before .before .before .before .before .loop .inv .0) (asked (c .before .before .before .before .before .before .before .before)) (here (c .before .before .before .before .before .before .before .before)) _ _ (c .before .before .before .before .before .before .edition-of .ensures) (c .before .before .before .before .query-of .ensures) (c .before .before .before .narrow .ensures) _ (c .next-count .ensures), omega arith)
 
 same-length : tie.Need-same-length Inv-loop μ-loop
 same-length c = c .before .loop .inv .1
@@ -80,9 +88,11 @@ narrow-each-spec =
     count-requires
     loop-holds
     line-end-requires
-    sub-narrow
-    part-narrow-start
-    part-narrow-end
+    sub-line
+    part-line-start
+    part-line-end
+    edition-of-requires
+    query-of-requires
     narrow-requires
     add-dropped
     next-count-requires

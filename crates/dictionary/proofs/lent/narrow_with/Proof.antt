@@ -15,7 +15,7 @@ returns : tie.Need-returns
 returns c = (with-refused (c .before .before .read-into .ensures) _ _ _ _ _ (c .before .if1 .taken) (c .not-narrowed .ensures), refl)
 
 narrow-by-requires : tie.Need-narrow-by-requires
-narrow-by-requires c κs = (c .before .before .before .before .before .before .before .before .before .before .pre, query-held _ _ _ (c .before .before .before .before .read-into .ensures) (c .before .before .before .if1 .left) .laid)
+narrow-by-requires c κs = (c .before .before .before .before .before .before .before .before .before .before .pre, query-held _ _ _ _ (c .before .before .before .before .read-into .ensures) (c .before .before .before .if1 .left) .laid)
 
 same-length : tie.Need-same-length
 same-length c = search needs

@@ -4,6 +4,9 @@ use borrow.Author.Needs.{needs}
 use Rattle.halofret.proofs.dictionaries.halofret_narrow.Statement.{statement}
 use Rattle.halofret.proofs.dictionaries.halofret_narrow.Tie as tie
 
+edition-of-requires : tie.Need-edition-of-requires
+edition-of-requires c κs = search needs
+
 set-of-requires : tie.Need-set-of-requires
 set-of-requires c κs = search needs
 
@@ -17,9 +20,15 @@ same-length : tie.Need-same-length
 same-length c = search needs
 
 returns : tie.Need-returns
-returns c = rw (← c .before .before .before .before .before .set-of .ensures) (c .narrowed-numbers .ensures ∙ ap (λ p. narrowedNumbers (p .0)) (c .before .before .before .narrow .ensures), ap (λ p. p .1) (c .before .before .before .narrow .ensures))
+returns c = rw (← c .before .before .before .before .before .set-of .ensures, ← c .before .before .before .before .before .before .edition-of .ensures) (c .narrowed-numbers .ensures ∙ ap (λ p. narrowedNumbers (p .0)) (c .before .before .before .narrow .ensures), ap (λ p. p .1) (c .before .before .before .narrow .ensures))
 
 pub halofret-narrow-spec : {M : Type 1} → statement M
 halofret-narrow-spec =
     tie.close
-    (tie.spec set-of-requires narrow-requires narrowed-numbers-requires same-length returns)
+    (tie.spec
+    edition-of-requires
+    set-of-requires
+    narrow-requires
+    narrowed-numbers-requires
+    same-length
+    returns)

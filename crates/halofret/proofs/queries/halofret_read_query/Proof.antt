@@ -4,14 +4,17 @@ use borrow.Author.Needs.{needs}
 use Rattle.halofret.proofs.queries.halofret_read_query.Statement.{statement}
 use Rattle.halofret.proofs.queries.halofret_read_query.Tie as tie
 
+edition-of-requires : tie.Need-edition-of-requires
+edition-of-requires c κs = search needs
+
 read-requires : tie.Need-read-requires
 read-requires c κs = search needs
 
-cast-t4 : tie.Need-cast-t4
-cast-t4 c = search needs
+cast-t7 : tie.Need-cast-t7
+cast-t7 c = search needs
 
 returns : tie.Need-returns
-returns c = ap queryNumbers (c .before .before .read .ensures)
+returns c = rw (← c .before .before .before .edition-of .ensures) (ap queryNumbers (c .before .before .read .ensures))
 
 pub halofret-read-query-spec : {M : Type 1} → statement M
-halofret-read-query-spec = tie.close (tie.spec read-requires cast-t4 returns)
+halofret-read-query-spec = tie.close (tie.spec edition-of-requires read-requires cast-t7 returns)

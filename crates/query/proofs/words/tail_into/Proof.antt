@@ -2,9 +2,14 @@ use Rattle.query.proofs.Tails.{items-inside, tail-refused, tail-wrong, 
 use borrow.Author.Needs.{needs}
 use Rattle.query.proofs.words.tail_into.Statement.{statement}
 use Rattle.query.proofs.words.tail_into.Tie as tie
-
-after-rows-requires : tie.Need-after-rows-requires
-after-rows-requires c κs = search needs
+use Rattle.query.proofs.words.tail_into.Reads as reads
+use Rattle.query.proofs.words.tail_into.Lts as lts
+use Rattle.query.proofs.words.answer.Reads as answer-reads
+use Rattle.query.proofs.words.either.Reads as either-reads
+use Rattle.query.proofs.words.limited_into.Reads as limited-into-reads
+use Rattle.querypart.proofs.alternatives.or_earlier.Reads as or-earlier-reads
+use Rattle.querypart.proofs.items.items_into.Reads as items-into-reads
+use Rattle.querypart.proofs.variance.variance_end.Reads as variance-end-reads
 
 items-into-requires : tie.Need-items-into-requires
 items-into-requires c κs = search needs
@@ -13,10 +18,10 @@ answer-requires : tie.Need-answer-requires
 answer-requires c κs = search needs
 
 returns : tie.Need-returns
-returns c = tail-refused _ _ _ _ _ (c .before .before .before .before .before .before .pre .1) _ _ _ _ (c .before .before .before .before .after-rows .ensures) (c .before .before .items-into .ensures) _ (c .before .if1 .taken) (c .answer .ensures)
+returns c = tail-refused (c .before .before .before .before .before .args .edition) _ _ _ (c .before .before .before .before .before .pre .1) _ _ _ (c .before .before .items-into .ensures) _ (c .before .if1 .taken) (c .answer .ensures)
 
 variance-end-requires : tie.Need-variance-end-requires
-variance-end-requires c κs = items-inside _ _ _ _ _ _ _ (c .before .items-into .ensures) (c .before .before .before .before .before .pre .1) (c .if1 .left)
+variance-end-requires c κs = items-inside (c .before .before .before .before .args .edition) _ _ _ _ _ _ _ (c .before .items-into .ensures) (c .before .before .before .before .pre .1) (c .if1 .left)
 
 enum-known-v : tie.Need-enum-known-v
 enum-known-v c = search needs
@@ -24,8 +29,11 @@ enum-known-v c = search needs
 or-earlier-requires : tie.Need-or-earlier-requires
 or-earlier-requires c κs = search needs
 
+either-requires : tie.Need-either-requires
+either-requires c κs = search needs
+
 limited-into-requires : tie.Need-limited-into-requires
-limited-into-requires c κs = c .before .before .before .before .before .before .before .items-into .ensures .size
+limited-into-requires c κs = c .before .before .before .before .before .before .before .before .items-into .ensures .size
 
 enum-known-p : tie.Need-enum-known-p
 enum-known-p c = search needs
@@ -40,25 +48,25 @@ answer-requires-3 : tie.Need-answer-requires-3
 answer-requires-3 c κs = search needs
 
 returns-2 : tie.Need-returns-2
-returns-2 c = tail-fine _ _ _ _ _ (c .before .before .before .before .before .before .before .before .before .before .before .before .pre .1) _ _ _ _ (c .before .before .before .before .before .before .before .before .before .before .after-rows .ensures) (c .before .before .before .before .before .before .before .before .items-into .ensures) (c .before .before .before .before .before .before .before .if1 .left) _ (c .before .before .before .before .before .before .variance-end .ensures) _ _ _ _ (c .before .before .before .before .v .given .1) (c .before .before .or-earlier .ensures) (c .limited-into .ensures)
+returns-2 c = tail-fine (c .before .before .before .before .before .before .before .before .before .before .before .before .args .edition) _ _ _ (c .before .before .before .before .before .before .before .before .before .before .before .before .pre .1) _ _ _ (c .before .before .before .before .before .before .before .before .before .items-into .ensures) (c .before .before .before .before .before .before .before .before .if1 .left) _ (c .before .before .before .before .before .before .before .variance-end .ensures) _ _ _ _ _ (c .before .before .before .before .before .v .given .1) (c .before .before .before .or-earlier .ensures) (c .before .before .either .ensures) (c .limited-into .ensures)
 
 returns-3 : tie.Need-returns-3
-returns-3 c = tail-wrong _ _ _ _ _ (c .before .before .before .before .before .before .before .before .before .before .pre .1) _ _ _ _ (c .before .before .before .before .before .before .before .before .after-rows .ensures) (c .before .before .before .before .before .before .items-into .ensures) (c .before .before .before .before .before .if1 .left) _ (c .before .before .before .before .variance-end .ensures) _ _ (c .before .before .p .given .1) (c .answer2 .ensures)
+returns-3 c = tail-wrong (c .before .before .before .before .before .before .before .before .before .args .edition) _ _ _ (c .before .before .before .before .before .before .before .before .before .pre .1) _ _ _ (c .before .before .before .before .before .before .items-into .ensures) (c .before .before .before .before .before .if1 .left) _ (c .before .before .before .before .variance-end .ensures) _ _ (c .before .before .p .given .1) (c .answer2 .ensures)
 
 returns-4 : tie.Need-returns-4
-returns-4 c = tail-short _ _ _ _ _ (c .before .before .before .before .before .before .before .before .before .pre .1) _ _ _ _ (c .before .before .before .before .before .before .before .after-rows .ensures) (c .before .before .before .before .before .items-into .ensures) (c .before .before .before .before .if1 .left) _ (c .before .before .before .variance-end .ensures) _ (c .before .enum-told .given .1) (c .answer3 .ensures)
+returns-4 c = tail-short (c .before .before .before .before .before .before .before .before .args .edition) _ _ _ (c .before .before .before .before .before .before .before .before .pre .1) _ _ _ (c .before .before .before .before .before .items-into .ensures) (c .before .before .before .before .if1 .left) _ (c .before .before .before .variance-end .ensures) _ (c .before .enum-told .given .1) (c .answer3 .ensures)
 
 pub tail-into-spec : {M : Type 1} → statement M
 tail-into-spec =
     tie.close
     (tie.spec
-    after-rows-requires
     items-into-requires
     answer-requires
     returns
     variance-end-requires
     enum-known-v
     or-earlier-requires
+    either-requires
     limited-into-requires
     enum-known-p
     answer-requires-2

@@ -2,8 +2,6 @@ use Rattle.queryitem.specs.Pieces.{failedAs}
 use borrow.Author.Needs.{needs}
 use Rattle.queryitem.proofs.reading.failed.Statement.{statement}
 use Rattle.queryitem.proofs.reading.failed.Tie as tie
-use Rattle.queryitem.proofs.reading.failed.Reads as reads
-use Rattle.queryitem.proofs.reading.failed.Lts as lts
 
 enum-told : tie.Need-enum-told
 enum-told c = search needs

@@ -2,9 +2,6 @@ use borrow.Author.Tests.{eq-eqb, ne-eqb}
 use borrow.Author.Needs.{needs}
 use Rattle.queryitem.proofs.reading.key_numbers.Statement.{statement}
 use Rattle.queryitem.proofs.reading.key_numbers.Tie as tie
-use Rattle.queryitem.proofs.reading.key_numbers.Reads as reads
-use Rattle.queryitem.proofs.reading.key_numbers.Lts as lts
-use Rattle.queryitem.proofs.reading.turn_of.Reads as turn-of-reads
 
 sub-first : tie.Need-sub-first
 sub-first c = search needs

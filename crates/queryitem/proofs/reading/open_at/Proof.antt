@@ -1,11 +1,7 @@
-use Rattle.queryitem.proofs.Keys.{open-digit, open-fails, open-any}
 use borrow.Author.Needs.{needs}
+use Rattle.queryitem.proofs.Digits.{open-digit, open-fails, open-any}
 use Rattle.queryitem.proofs.reading.open_at.Statement.{statement}
 use Rattle.queryitem.proofs.reading.open_at.Tie as tie
-use Rattle.queryitem.proofs.reading.open_at.Reads as reads
-use Rattle.queryitem.proofs.reading.open_at.Lts as lts
-use Rattle.token.proofs.reading.byte_at.Reads as byte-at-reads
-use Rattle.token.proofs.reading.digit_at.Reads as digit-at-reads
 
 digit-at-requires : tie.Need-digit-at-requires
 digit-at-requires c κs = search needs
@@ -14,7 +10,7 @@ enum-told : tie.Need-enum-told
 enum-told c = search needs
 
 returns : tie.Need-returns
-returns c = open-digit _ (c .before .before .before .pre) _ _ _ (c .before .digit-at .ensures) (c .match .keys2)
+returns c = open-digit _ _ _ _ (c .before .digit-at .ensures) (c .match .keys2)
 
 byte-at-requires : tie.Need-byte-at-requires
 byte-at-requires c κs = search needs
@@ -23,13 +19,13 @@ enum-told-2 : tie.Need-enum-told-2
 enum-told-2 c = search needs
 
 returns-2 : tie.Need-returns-2
-returns-2 c = open-fails _ (c .before .before .before .before .before .before .pre) _ _ _ _ (c .before .before .before .before .digit-at .ensures) (c .before .before .enum-told .given .1) _ (c .before .byte-at .ensures) (c .match2 .keys2)
+returns-2 c = open-fails _ _ _ (c .before .before .before .before .before .before .pre) _ _ (c .before .before .before .before .digit-at .ensures) (c .before .before .enum-told .given .1) _ (c .before .byte-at .ensures) (c .match2 .keys2)
 
 add-t6 : tie.Need-add-t6
 add-t6 c = search needs
 
 returns-3 : tie.Need-returns-3
-returns-3 c = open-any _ (c .before .before .before .before .before .before .before .pre) _ _ _ _ (c .before .before .before .before .before .digit-at .ensures) (c .before .before .before .enum-told .given .1) _ _ (c .before .before .byte-at .ensures) (c .enum-told2 .given .1)
+returns-3 c = open-any _ _ _ (c .before .before .before .before .before .before .before .pre) _ _ (c .before .before .before .before .before .digit-at .ensures) (c .before .before .before .enum-told .given .1) _ _ (c .before .before .byte-at .ensures) (c .enum-told2 .given .1)
 
 pub open-at-spec : {M : Type 1} → statement M
 open-at-spec =

@@ -1,11 +1,9 @@
-use Rattle.queryitem.proofs.Keys.{given-one, given-some}
+use Rattle.queryitem.proofs.Digits.{given-one, given-some}
 use Rattle.queryitem.specs.Numbers.{turnOf}
 use mathlib.Core.Path.{sym, ap}
 use borrow.Author.Needs.{needs}
 use Rattle.queryitem.proofs.reading.turn_of.Statement.{statement}
 use Rattle.queryitem.proofs.reading.turn_of.Tie as tie
-use Rattle.queryitem.proofs.reading.turn_of.Reads as reads
-use Rattle.queryitem.proofs.reading.turn_of.Lts as lts
 
 returns : tie.Need-returns
 returns c = sym (ap turnOf (given-one 15 _ (c .if1 .taken)))

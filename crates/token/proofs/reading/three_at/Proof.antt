@@ -4,7 +4,8 @@ use mathlib.Core.Path.{ap, _∙_}
 use native.Mathlib.Omega.{arith}
 use denote.Ref.{now}
 use borrow.Author.Needs.{needs}
-use Rattle.token.proofs.Digits.{First, Rest, head-fails, head-told, rest-limits, rest-told}
+use Rattle.charset.specs.Bytes.{digit}
+use Rattle.token.proofs.Digits.{hexadecimal, First, Rest, head-fails, head-told, rest-limits, rest-told}
 use Rattle.token.proofs.reading.three_at.Statement.{statement}
 use Rattle.token.proofs.reading.three_at.Tie as tie
 
@@ -22,14 +23,14 @@ enum-known-first c = search needs
 
 returns : tie.Need-returns
 returns c =
-    head-fails _ (_ ∷ []) _ _ (c .before .before .before .pre .1) (c .before .before .before .pre .2) _ _ _ (c .before .digit-at .ensures)
+    head-fails hexadecimal _ (_ ∷ []) _ _ (c .before .before .before .pre .1) (c .before .before .before .pre .2) _ _ _ (c .before .digit-at .ensures)
     (c .match .keys2)
 
 first : (c : tie.After-known-told)
     → let a = c .before .before .before .before .before .args in
-    First (a .p) (a .lo) (a .hi) (now (a .s)) (a .at) (c .before .first .given .0 .0)
+    First digit (a .p) (a .lo) (a .hi) (now (a .s)) (a .at) (c .before .first .given .0 .0)
 first c =
-    head-told _ (_ ∷ []) _ _ (c .before .before .before .before .before .pre .1) (c .before .before .before .before .before .pre .2) _ _ _ _
+    head-told hexadecimal _ (_ ∷ []) _ _ (c .before .before .before .before .before .pre .1) (c .before .before .before .before .before .pre .2) _ _ _ _
     (c .before .before .before .digit-at .ensures) (c .before .first .given .1)
 
 mul-from : tie.Need-mul-from
@@ -53,7 +54,7 @@ least-requires c κs = search needs
 two-at-requires : tie.Need-two-at-requires
 two-at-requires c κs =
     let l =
-    rest-limits _ (_ ∷ []) _ _ (c .before .before .before .before .before .before .before .before .pre .1) (c .before .before .before .before .before .before .before .before .pre .2)
+    rest-limits hexadecimal _ (_ ∷ []) _ _ (c .before .before .before .before .before .before .before .before .pre .1) (c .before .before .before .before .before .before .before .before .pre .2)
     _ _ _ _ _ (first (c .before .before .before)) (c .before .before .less .ensures) (c .least .ensures ∙ ap (min _) (c .before .less2 .ensures)) in
     (omega arith, l .0, l .1)
 
@@ -62,9 +63,9 @@ enum-known-next c = search needs
 
 rest : (c : tie.After-two-at)
     → let a = c .before .before .before .before .before .before .before .before .before .args in
-    Rest (a .p) (a .q ∷ []) (a .lo) (a .hi) (now (a .s)) (a .at) (c .before .before .before .before .before .first .given .0 .0) (c .two-at .result)
+    Rest digit (a .p) (a .q ∷ []) (a .lo) (a .hi) (now (a .s)) (a .at) (c .before .before .before .before .before .first .given .0 .0) (c .two-at .result)
 rest c =
-    rest-told _ (_ ∷ []) _ _ (c .before .before .before .before .before .before .before .before .before .pre .1)
+    rest-told hexadecimal _ (_ ∷ []) _ _ (c .before .before .before .before .before .before .before .before .before .pre .1)
     (c .before .before .before .before .before .before .before .before .before .pre .2) _ _ _ _ _ _ (first (c .before .before .before .before))
     (c .before .before .before .less .ensures) (c .before .least .ensures ∙ ap (min _) (c .before .before .less2 .ensures)) (c .two-at .ensures)
 

@@ -4,7 +4,8 @@ use mathlib.Core.Path.{ap, _∙_}
 use native.Mathlib.Omega.{arith}
 use denote.Ref.{now}
 use borrow.Author.Needs.{needs}
-use Rattle.token.proofs.Digits.{First, Rest, head-fails, head-told, rest-told}
+use Rattle.charset.specs.Bytes.{digit}
+use Rattle.token.proofs.Digits.{hexadecimal, First, Rest, head-fails, head-told, rest-told}
 use Rattle.token.proofs.reading.two_at.Statement.{statement}
 use Rattle.token.proofs.reading.two_at.Tie as tie
 
@@ -21,13 +22,13 @@ enum-known-first : tie.Need-enum-known-first
 enum-known-first c = search needs
 
 returns : tie.Need-returns
-returns c = head-fails _ [] _ _ (c .before .before .before .pre .1) (c .before .before .before .pre .2) _ _ _ (c .before .digit-at .ensures) (c .match .keys2)
+returns c = head-fails hexadecimal _ [] _ _ (c .before .before .before .pre .1) (c .before .before .before .pre .2) _ _ _ (c .before .digit-at .ensures) (c .match .keys2)
 
 first : (c : tie.After-known-told)
     → let a = c .before .before .before .before .before .args in
-    First (a .p) (a .lo) (a .hi) (now (a .s)) (a .at) (c .before .first .given .0 .0)
+    First digit (a .p) (a .lo) (a .hi) (now (a .s)) (a .at) (c .before .first .given .0 .0)
 first c =
-    head-told _ [] _ _ (c .before .before .before .before .before .pre .1) (c .before .before .before .before .before .pre .2) _ _ _ _
+    head-told hexadecimal _ [] _ _ (c .before .before .before .before .before .pre .1) (c .before .before .before .before .before .pre .2) _ _ _ _
     (c .before .before .before .digit-at .ensures) (c .before .first .given .1)
 
 mul-from : tie.Need-mul-from
@@ -56,9 +57,9 @@ enum-known-next c = search needs
 
 rest : (c : tie.After-digit-at2)
     → let a = c .before .before .before .before .before .before .before .before .before .args in
-    Rest (a .p) [] (a .lo) (a .hi) (now (a .s)) (a .at) (c .before .before .before .before .before .first .given .0 .0) (c .digit-at2 .result)
+    Rest digit (a .p) [] (a .lo) (a .hi) (now (a .s)) (a .at) (c .before .before .before .before .before .first .given .0 .0) (c .digit-at2 .result)
 rest c =
-    rest-told _ [] _ _ (c .before .before .before .before .before .before .before .before .before .pre .1)
+    rest-told hexadecimal _ [] _ _ (c .before .before .before .before .before .before .before .before .before .pre .1)
     (c .before .before .before .before .before .before .before .before .before .pre .2) _ _ _ _ _ _ (first (c .before .before .before .before))
     (c .before .before .before .less .ensures) (c .before .least .ensures ∙ ap (min _) (c .before .before .less2 .ensures))
     (c .digit-at2 .ensures)
