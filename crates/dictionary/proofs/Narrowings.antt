@@ -14,7 +14,8 @@ use Rattle.reader.specs.Signs.{signOf}
 use Rattle.querygrammar.specs.declared.Edition.{Edition}
 use Rattle.query.specs.declared.words.Head.{Head}
 use Rattle.query.specs.Inner.{ReadInto}
-use Rattle.query.proofs.Answers.{Known, not-read, was-read, known}
+use Rattle.query.proofs.Answers.{all-fit, Known, not-read, was-read, known}
+use Rattle.queryitem.specs.Words.{wordCount}
 use Rattle.verdict.proofs.Answers.{query-held}
 use Rattle.lines.specs.declared.checked.Counted.{Counted}
 use Rattle.lines.specs.Lines.{lines as linesOf, lineOf, fewLines}
@@ -109,12 +110,12 @@ module _ {dict list : List ℕ} {n lines : ℕ} {before : List ℕ} (x : Ready d
           call-done rising (readable set dict) list n refl (x .counted) kept after (x .listed) (sym first ∙ z) (ek ∙ ap length same) (ea ∙ ap (λ e. filled n e (drop n list)) same)
 
 -- WITH A QUERY AS TEXT
-module _ {e : Edition} {s : List ℕ} {h : Head} {words : List ℕ} (v : ReadInto e s h words) (set : Charset) (dict list : List ℕ) (n : ℕ) where
+module _ {e : Edition} {s : List ℕ} {h : Head} {words : List ℕ} (v : ReadInto e s wordCount h words) (set : Charset) (dict list : List ℕ) (n : ℕ) where
   pub with-refused : (r : Narrowed) → (h .number ≡ 0 → ⊥) → r ≡ notNarrowed (h .number) (h .place) → (r, list) ≡ narrowed set dict list n (e, s)
   unfolding narrowed
-  with-refused r z y = go (known e s h words v)
+  with-refused r z y = go (known e s wordCount (all-fit e s) h words v)
     where
-      go : Known e s h words v → (r, list) ≡ narrowedBy (testOf set dict (e, s)) (lineCount dict) rising (readable set dict) list n
+      go : Known e s wordCount (all-fit e s) h words v → (r, list) ≡ narrowedBy (testOf set dict (e, s)) (lineCount dict) rising (readable set dict) list n
       go (not-read q m) =
           ap (λ x. (x, list)) y ∙ query-refused rising (readable set dict) list n (lineCount dict) (ap (onDone (meets set dict)) q)
       go (was-read q x k w) = absurd (z k)
@@ -122,6 +123,6 @@ module _ {e : Edition} {s : List ℕ} {h : Head} {words : List ℕ} (v : ReadInt
   pub with-done : h .number ≡ 0 → (r : Narrowed) (after : List ℕ) → (r, after) ≡ narrowedWords set dict list n words → (r, after) ≡ narrowed set dict list n (e, s)
   unfolding narrowed narrowedWords
   with-done z r after j =
-      let k = query-held e s h words v z in
+      let k = query-held e s wordCount (all-fit e s) h words v z in
       let same : meetsWords set dict words ≡ meets set dict (k .query) = λ i d. k .same (signOf set (lineOf dict d)) i .met in
       j ∙ ap (λ t. narrowedBy t (lineCount dict) rising (readable set dict) list n) (ap done same ∙ ap (onDone (meets set dict)) (sym (k .is)))

@@ -28,7 +28,7 @@ fn narrow_by<'a>(
     dict: &'a [u8],
     list: &'a mut [u16],
     n: usize,
-    words: &'a [u16; WORDS],
+    words: &'a [u16],
     flags: &'a mut [u8],
 ) -> Narrowed
     requires { ⌜ ((fewLines (now dict) ≡ true → length (linesOf (now dict)) < length (now flags))) × (Laid (now words)) ⌝ }

@@ -14,7 +14,6 @@ use list::marks::LISTED;
 use list::marks::MET;
 use list::marks::NO_SIGN;
 use list::marks::UNLISTED;
-use queryitem::words::WORDS;
 use token::refusal::DONE;
 use verdict::judging::Meeting;
 use verdict::judging::meets_text;
@@ -35,13 +34,7 @@ fn flag_by(v: Meeting) -> u8
 }
 
 // Judges the line of entry e if it is listed; otherwise the line is not read.
-fn judge_line<'a>(
-    set: Charset,
-    line: &'a [u8],
-    words: &'a [u16; WORDS],
-    flags: &'a mut [u8],
-    e: usize,
-)
+fn judge_line<'a>(set: Charset, line: &'a [u8], words: &'a [u16], flags: &'a mut [u8], e: usize)
     requires { ⌜ (e < length (now flags)) × Laid (now words) ⌝ }
     ensures { λ _. ⌜ now (flags .exit) ≡ choose (eqb (flagOf (now (flags .entry)) e) unlistedFlag) (now (flags .entry)) (setAt (now (flags .entry)) e (lineFlag set (now (words .entry)) (now (line .entry)))) ⌝ }
 {
@@ -57,7 +50,7 @@ pub fn judge_listed<'a>(
     set: Charset,
     dict: &'a [u8],
     lines: usize,
-    words: &'a [u16; WORDS],
+    words: &'a [u16],
     flags: &'a mut [u8],
 )
     requires { ⌜ (lines ≡ length (linesOf (now dict))) × (lines < length (now flags)) × Laid (now words) ⌝ }

@@ -16,7 +16,7 @@ use Rattle.writer.specs.Arrays.{upto}
 use Rattle.writer.proofs.Upto.{upto-is, map-upto}
 use Rattle.querygrammar.specs.Spelling.{Item}
 use Rattle.querygrammar.specs.Query.{Prefix, free, present, begins, Sought, Query, listsOf, kindOf, ValidItem, ValidSought, ValidQuery}
-use Rattle.queryitem.specs.Words.{wordCount, rowWords, rowsWords, bare, wordsOf}
+use Rattle.queryitem.specs.Words.{rowWords, rowsWords, bare, wordsOf}
 use Rattle.queryitem.proofs.Rows.{rows-append, items-size}
 use Rattle.matching.specs.Meets.{beginsBy, firstFrom, unmet, judged, satisfiesOne, prefixHolds, serves, witnessesOf, verdictOf}
 use Rattle.matching.specs.Inner.{word, servesAt, after, offset, Laid, fitsAt, prefixWords, judgedWords, verdictWords}
@@ -84,7 +84,7 @@ all-at P (a ∷ l) d p (suc i) h = all-at P l d (p .1) i (omega arith)
 
 -- THE WORDS OF A QUERY
 
-module _ (q : Query) where
+module _ (q : Query) (n : ℕ) where
   abbrev asked : List (List Item)
   asked = listsOf (q .prefix)
 
@@ -92,7 +92,7 @@ module _ (q : Query) where
   bares = map bare asked
 
   abbrev words : List ℕ
-  words = padded wordCount (wordsOf q)
+  words = padded n (wordsOf q)
 
   bares-length : length bares ≡ length asked
   bares-length = length-map asked bare
@@ -102,13 +102,13 @@ module _ (q : Query) where
   bare-go present e = refl
   bare-go (begins l) e = absurd (omega arith)
 
-  module _ (few : length asked ≤ 32) (few-items : length (q .items) ≤ 32) (room : length (wordsOf q) ≤ wordCount) where
+  module _ (room : length (wordsOf q) ≤ n) where
     abbrev rest : List ℕ
-    rest = padded (wordCount - length (wordsOf q)) []
+    rest = padded (n - length (wordsOf q)) []
 
     begin : words ≡ kindOf (q .prefix) ∷ length asked ∷ length (q .items) ∷ q .variance ∷ ((rowsWords bares ++ rowsWords (q .items)) ++ rest)
     unfolding wordsOf
-    begin = padded-append (wordsOf q) (wordCount - length (wordsOf q)) wordCount (omega arith)
+    begin = padded-append (wordsOf q) (n - length (wordsOf q)) n (omega arith)
 
     kind-is : word words 0 ≡ kindOf (q .prefix)
     kind-is = ap (λ l. getD l 0 0) begin
@@ -141,12 +141,13 @@ module _ (q : Query) where
         let e : getD (bares ++ q .items) (length bares + j) noRow ≡ getD (q .items) j noRow = getD-append-add bares (q .items) j noRow in
         rw k (rw e at (whole-at (length bares + j) (omega (arith, length-append bares (q .items)))))
 
-    pub laid : Laid words
-    laid = record {
+    pub laid : length asked ≤ 32 → length (q .items) ≤ 32 → Laid words
+    laid few few-items = record {
+      begun = omega (arith, ap length begin);
       prefix-most = omega (arith, asked-is);
       items-most = omega (arith, items-is);
       bare = λ e. asked-is ∙ bare-go (q .prefix) (sym kind-is ∙ e);
-      rows = λ j h. omega (arith, padded-length wordCount (wordsOf q), whole-at j (omega (arith, asked-is, items-is, bares-length, length-append bares (q .items))) .inside);
+      rows = λ j h. omega (arith, padded-length n (wordsOf q), whole-at j (omega (arith, asked-is, items-is, bares-length, length-append bares (q .items))) .inside);
     }
 
     -- THE VERDICT
@@ -170,8 +171,8 @@ module _ (q : Query) where
           let k = length-map asked satisfiesOne in
           ap (upto (λ j. fitsAt words (offset words j))) (asked-is ∙ sym k)
           ∙ upto-is (λ j. fitsAt words (offset words j)) (map satisfiesOne asked) (satisfiesOne []) (λ j h.
-          let n : j < length asked = omega arith in
-          (λ i code. fits-same j n code i) ∙ sym (List·getD-map satisfiesOne asked j []))
+          let z : j < length asked = omega arith in
+          (λ i code. fits-same j z code i) ∙ sym (List·getD-map satisfiesOne asked j []))
 
       begins-same : (codes : List ℕ) → beginsBy (fitsAt words) (upto (offset words) (word words 1)) codes ≡ beginsBy satisfiesOne asked codes
       begins-same codes =
@@ -211,8 +212,8 @@ module _ (q : Query) where
             let k = length-map (q .items) witness in
             ap (upto (λ j. found (rowOf j))) (items-is ∙ sym k)
             ∙ upto-is (λ j. found (rowOf j)) (map witness (q .items)) (witness noRow) (λ j h.
-            let n : j < length (q .items) = omega arith in
-            ap (λ test. firstFrom 1 test symbols) (serves-same j n) ∙ sym (List·getD-map witness (q .items) j noRow))
+            let z : j < length (q .items) = omega arith in
+            ap (λ test. firstFrom 1 test symbols) (serves-same j z) ∙ sym (List·getD-map witness (q .items) j noRow))
 
         judged-same : judgedWords words symbols ≡ judged (map witness (q .items))
         unfolding judgedWords

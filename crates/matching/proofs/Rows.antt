@@ -14,14 +14,13 @@ use Rattle.writer.specs.Arrays.{upto, at as valueAt}
 use Rattle.matching.specs.declared.Verdict.{Verdict}
 use Rattle.matching.specs.Meets.{firstFrom, unmet, judged, isMet, answered}
 use Rattle.matching.proofs.Rightness.{answered-met}
-use Rattle.queryitem.specs.Words.{wordCount}
 use Rattle.matching.proofs.Loops.{Passed, passed-none, passed-more, match-short, match-not, match-all, Judging, judging-start, judging-on, judged-not, judged-all, held-all}
 use Rattle.matching.specs.Inner.{word, fitsAt, servesAt, after, offset, Laid, afterRows, prefixWords, afterPrefix, judgedWords, verdictWords}
 
 offset-next : (words : List ℕ) (j at : ℕ) → at ≡ offset words j → after words at ≡ offset words (j + 1)
 offset-next words j at e = ap (after words) e ∙ ap (offset words) (sym (add-one j))
 
-row-inside : (words : List ℕ) (l : Laid words) (j at : ℕ) → at ≡ offset words j → j < word words 1 + word words 2 → after words at ≤ wordCount
+row-inside : (words : List ℕ) (l : Laid words) (j at : ℕ) → at ≡ offset words j → j < word words 1 + word words 2 → after words at ≤ length words
 row-inside words l j at e h = rw e (l .rows j h)
 
 -- THE PREFIX
@@ -43,7 +42,7 @@ module _ (words codes : List ℕ) (m n : ℕ) where
     test-here : (t : Bool) → t ≡ fitsAt words at (valueAt codes j) → fitsAt words (offset words j) (valueAt codes j) ≡ t
     test-here t e = rw (← v .here) (sym e)
 
-    pub begun-inside : Laid words → m ≡ word words 1 → j < m → after words at ≤ wordCount
+    pub begun-inside : Laid words → m ≡ word words 1 → j < m → after words at ≤ length words
     begun-inside l e h = row-inside words l j at (v .here) (omega arith)
 
     pub begun-not : j < m → (t : Bool) → t ≡ fitsAt words at (valueAt codes j) → not t ≡ true → 0 ≡ afterRows words m (upto (valueAt codes) n)
@@ -98,7 +97,7 @@ module _ (words : List ℕ) (symbols : List Spatial) (n : ℕ) where
     witness-here : (w : ℕ) → w ≡ firstFrom 1 (servesAt words i (word words 3)) symbols → w ≡ witnessAt words symbols (rowOf words j)
     witness-here w e = e ∙ ap (witnessAt words symbols) (v .here)
 
-    pub judged-inside : Laid words → n ≡ word words 2 → j < n → after words i ≤ wordCount
+    pub judged-inside : Laid words → n ≡ word words 2 → j < n → after words i ≤ length words
     judged-inside l e h = row-inside words l (word words 1 + j) i (v .here) (omega arith)
 
     pub judged-on : j < n → (w : ℕ) → w ≡ firstFrom 1 (servesAt words i (word words 3)) symbols → (w ≡ 0 → ⊥) → (next : ℕ) → next ≡ after words i → Judged words symbols n next (j + 1) (set out j w)

@@ -4,10 +4,10 @@ use mathlib.Core.Path.{_≡_, refl, sym, ap, _∙_}
 use mathlib.Core.List.{List}
 use mathlib.Core.Bool.{Bool, true, false, not, _&&_, _||_}
 use lib.Dec.{leb}
+use lib.ListN.{length}
 use native.Mathlib.Omega.{arith}
 use borrow.Author.Tests.{le-leb, lt-leb, eq-eqb, ne-eqb, not-true, not-false}
 use Rattle.grammar.specs.Sign.{Spatial}
-use Rattle.queryitem.specs.Words.{wordCount}
 use Rattle.matching.specs.Meets.{within}
 use Rattle.matching.specs.Inner.{word, fitsNumbers, fitsOne, fitsRow, fitsAt, servesAt}
 
@@ -52,7 +52,7 @@ module _ (variance a b : ℕ) where
 -- ALTERNATIVES ONE BY ONE
 
 pub record Fitting (words : List ℕ) (at n code i left : ℕ) : Type 0 where
-  pub inside : i + 3 * left ≤ wordCount
+  pub inside : i + 3 * left ≤ length words
   pub same : fitsRow words at n code ≡ fitsRow words i left code
 
 module _ (words : List ℕ) (code : ℕ) where

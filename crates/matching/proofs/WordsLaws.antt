@@ -16,6 +16,6 @@ words-laws = record {
   item = item-means;
   fits = λ words at s rest code e v. decided (fits-row words at s rest e v code) (one-decides (s .alternatives) code);
   serves = λ words at variance s rest symbol e v. decided (serves-row words at s rest e v variance symbol) (serves-decides variance s symbol);
-  laid = laid;
+  laid = λ q n few few-items room. laid q n room few few-items;
   verdict = verdict;
 }

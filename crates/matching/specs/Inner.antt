@@ -9,7 +9,6 @@ use Rattle.format.specs.Format.{choose}
 use Rattle.grammar.specs.Sign.{Spatial}
 use Rattle.writer.specs.Arrays.{upto}
 use Rattle.querygrammar.specs.Query.{present, kindOf}
-use Rattle.queryitem.specs.Words.{wordCount}
 use Rattle.matching.specs.Meets.{beginsBy, within, firstFrom, Judgement, unmet, judged}
 
 abbrev pub word : List ℕ → ℕ → ℕ
@@ -51,10 +50,11 @@ offset words (suc j) = after words (offset words j)
 
 -- words in which rows lie as the words of a query do
 pub record Laid (words : List ℕ) : Type 0 where
+  pub begun : 4 ≤ length words
   pub prefix-most : word words 1 ≤ 32
   pub items-most : word words 2 ≤ 32
   pub bare : word words 0 ≡ kindOf present → word words 1 ≡ 0
-  pub rows : (j : ℕ) → j < word words 1 + word words 2 → after words (offset words j) ≤ wordCount
+  pub rows : (j : ℕ) → j < word words 1 + word words 2 → after words (offset words j) ≤ length words
 
 -- THE CONDITIONS
 

@@ -1,5 +1,5 @@
 -- What the words of a query mean (document 01, "Symbols and numbers" and "A query"). The alternatives of a query that was accepted are
--- valid, there are no more than 32 items of the prefix and 32 of the signbox, and its words have room.
+-- valid, and there are no more than 32 items of the prefix and 32 of the signbox. Its words may be followed by zeros.
 use Prim.Native.Nat.{ℕ, _%_, _≤_}
 use mathlib.Core.Path.{_≡_}
 use mathlib.Core.List.{List, _++_}
@@ -11,7 +11,7 @@ use Rattle.token.specs.Padded.{padded}
 use Rattle.querygrammar.specs.Spelling.{Item}
 use Rattle.querygrammar.specs.Query.{Sought, Query, listsOf, ValidItem, ValidSought, ValidQuery}
 use Rattle.queryitem.specs.Numbers.{lowest, highest, remainder}
-use Rattle.queryitem.specs.Words.{wordCount, rowWords, wordsOf}
+use Rattle.queryitem.specs.Words.{rowWords, wordsOf}
 use Rattle.matching.specs.Meets.{Satisfies, SatisfiesOne, Serves, verdictOf}
 use Rattle.matching.specs.Inner.{fitsAt, servesAt, Laid, verdictWords}
 
@@ -28,6 +28,6 @@ pub record WordsLaws : Type 0 where
   pub serves : (words : List ℕ) (at variance : ℕ) (s : Sought) (rest : List ℕ) (symbol : Spatial) → drop at words ≡ rowWords s ++ rest → ValidSought s
       → (servesAt words at variance symbol ≡ true) ↔ Serves variance s symbol
   -- the words of a query are laid as judging asks, and the verdict on them is that on the query
-  pub laid : (q : Query) → length (listsOf (q .prefix)) ≤ 32 → length (q .items) ≤ 32 → length (wordsOf q) ≤ wordCount → Laid (padded wordCount (wordsOf q))
-  pub verdict : (q : Query) → length (listsOf (q .prefix)) ≤ 32 → length (q .items) ≤ 32 → length (wordsOf q) ≤ wordCount → ValidQuery q
-      → (m : Meaning) → verdictWords (padded wordCount (wordsOf q)) (m .prefix) (m .symbols) ≡ verdictOf q m
+  pub laid : (q : Query) (n : ℕ) → length (listsOf (q .prefix)) ≤ 32 → length (q .items) ≤ 32 → length (wordsOf q) ≤ n → Laid (padded n (wordsOf q))
+  pub verdict : (q : Query) (n : ℕ) → length (wordsOf q) ≤ n → ValidQuery q
+      → (m : Meaning) → verdictWords (padded n (wordsOf q)) (m .prefix) (m .symbols) ≡ verdictOf q m

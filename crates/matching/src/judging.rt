@@ -2,15 +2,14 @@
 ghost use mathlib.Core.Path.{_≡_};
 ghost use mathlib.Core.Bool.{_&&_};
 ghost use lib.Dec.{leb};
+ghost use lib.ListN.{length};
 ghost use Prim.Native.Nat.{_+_, _*_, _≤_};
 ghost use Rattle.writer.specs.Arrays.{upto, at as valueAt, symbolAt};
-ghost use Rattle.queryitem.specs.Words.{wordCount};
 ghost use Rattle.matching.specs.Meets.{within, firstFrom, unmet as unmetAt, answered, isMet};
 ghost use Rattle.matching.specs.Inner.{word, fitsNumbers, fitsOne, fitsRow, fitsAt, servesAt, after, offset, Laid, afterRows, afterPrefix, judgedWords, verdictWords};
 use crate::Verdict;
 use queryitem::words::FIRST_ROW;
 use queryitem::words::PRESENT;
-use queryitem::words::WORDS;
 
 // Whether a code is one of lo to hi.
 fn is_inside(lo: u16, hi: u16, code: u16) -> bool
@@ -47,16 +46,16 @@ fn near(variance: u16, a: u16, b: u16) -> bool
 }
 
 // Whether a code fits the alternative at an offset.
-fn fits_one(words: &[u16; WORDS], at: usize, code: u16) -> bool
-    requires { ⌜ at + 3 ≤ wordCount ⌝ }
+fn fits_one(words: &[u16], at: usize, code: u16) -> bool
+    requires { ⌜ at + 3 ≤ length (now words) ⌝ }
     ensures { λ r. ⌜ r ≡ fitsOne (now (words .entry)) at code ⌝ }
 {
     fits(words[at], words[at + 1], words[at + 2], code)
 }
 
 // Whether a code fits one of the n alternatives from an offset on.
-fn fits_row(words: &[u16; WORDS], at: usize, n: usize, code: u16) -> bool
-    requires { ⌜ at + 3 * n ≤ wordCount ⌝ }
+fn fits_row(words: &[u16], at: usize, n: usize, code: u16) -> bool
+    requires { ⌜ at + 3 * n ≤ length (now words) ⌝ }
     ensures { λ r. ⌜ r ≡ fitsRow (now (words .entry)) at n code ⌝ }
 {
     let mut i = at;
@@ -72,8 +71,8 @@ fn fits_row(words: &[u16; WORDS], at: usize, n: usize, code: u16) -> bool
 }
 
 // Whether a code satisfies the item whose row is at an offset. One alternative needs no loop.
-fn fits_at(words: &[u16; WORDS], at: usize, code: u16) -> bool
-    requires { ⌜ after (now words) at ≤ wordCount ⌝ }
+fn fits_at(words: &[u16], at: usize, code: u16) -> bool
+    requires { ⌜ after (now words) at ≤ length (now words) ⌝ }
     ensures { λ r. ⌜ r ≡ fitsAt (now (words .entry)) at code ⌝ }
 {
     let n = words[at + 2] as usize;
@@ -84,8 +83,8 @@ fn fits_at(words: &[u16; WORDS], at: usize, code: u16) -> bool
 }
 
 // The offset after the row at an offset.
-fn next_row(words: &[u16; WORDS], at: usize) -> usize
-    requires { ⌜ after (now words) at ≤ wordCount ⌝ }
+fn next_row(words: &[u16], at: usize) -> usize
+    requires { ⌜ after (now words) at ≤ length (now words) ⌝ }
     ensures { λ r. ⌜ r ≡ after (now (words .entry)) at ⌝ }
 {
     let n = words[at + 2] as usize;
@@ -93,8 +92,8 @@ fn next_row(words: &[u16; WORDS], at: usize) -> usize
 }
 
 // Whether a symbol serves the item whose row is at an offset.
-fn serves_at(words: &[u16; WORDS], at: usize, variance: u16, code: u16, x: u16, y: u16) -> bool
-    requires { ⌜ after (now words) at ≤ wordCount ⌝ }
+fn serves_at(words: &[u16], at: usize, variance: u16, code: u16, x: u16, y: u16) -> bool
+    requires { ⌜ after (now words) at ≤ length (now words) ⌝ }
     ensures { λ r. ⌜ r ≡ servesAt (now (words .entry)) at variance (record { code = code; x = x; y = y }) ⌝ }
 {
     if !fits_at(words, at, code) {
@@ -112,7 +111,7 @@ fn serves_at(words: &[u16; WORDS], at: usize, variance: u16, code: u16, x: u16, 
 
 // The first of n symbols that serves the item whose row is at an offset, counted from 1, or 0.
 fn first_serving<'a>(
-    words: &'a [u16; WORDS],
+    words: &'a [u16],
     at: usize,
     variance: u16,
     n: usize,
@@ -120,7 +119,7 @@ fn first_serving<'a>(
     xs: &'a [u16; 64],
     ys: &'a [u16; 64],
 ) -> u16
-    requires { ⌜ (n ≤ 64) × (after (now words) at ≤ wordCount) ⌝ }
+    requires { ⌜ (n ≤ 64) × (after (now words) at ≤ length (now words)) ⌝ }
     ensures { λ r. ⌜ r ≡ firstFrom 1 (servesAt (now (words .entry)) at variance) (upto (symbolAt (now (codes .entry)) (now (xs .entry)) (now (ys .entry))) n) ⌝ }
 {
     let mut i: usize = 0;
@@ -135,7 +134,7 @@ fn first_serving<'a>(
 
 // The offset after the m rows of the prefix, where the n codes of a prefix begin with symbols that satisfy their
 // items one by one; otherwise 0.
-fn after_rows<'a>(words: &'a [u16; WORDS], m: usize, n: usize, codes: &'a [u16; 32]) -> usize
+fn after_rows<'a>(words: &'a [u16], m: usize, n: usize, codes: &'a [u16; 32]) -> usize
     requires { ⌜ (Laid (now words)) × (m ≡ word (now words) 1) × (n ≤ 32) ⌝ }
     ensures { λ r. ⌜ r ≡ afterRows (now (words .entry)) m (upto (valueAt (now (codes .entry))) n) ⌝ }
 {
@@ -155,7 +154,7 @@ fn after_rows<'a>(words: &'a [u16; WORDS], m: usize, n: usize, codes: &'a [u16; 
 }
 
 // The offset after the rows of the prefix where the prefix condition holds, otherwise 0.
-fn after_prefix<'a>(words: &'a [u16; WORDS], n: usize, codes: &'a [u16; 32]) -> usize
+fn after_prefix<'a>(words: &'a [u16], n: usize, codes: &'a [u16; 32]) -> usize
     requires { ⌜ (Laid (now words)) × (n ≤ 32) ⌝ }
     ensures { λ r. ⌜ r ≡ afterPrefix (now (words .entry)) (upto (valueAt (now (codes .entry))) n) ⌝ }
 {
@@ -184,7 +183,7 @@ fn unmet(condition: u16) -> Verdict
 
 // The verdict on the signbox items, whose rows start at an offset.
 fn judge_rows<'a>(
-    words: &'a [u16; WORDS],
+    words: &'a [u16],
     at: usize,
     k: usize,
     codes: &'a [u16; 64],
@@ -220,7 +219,7 @@ fn judge_rows<'a>(
 
 // The verdict on a query that lies in words, and a sign (p prefix symbols, k signbox symbols).
 pub fn judge<'a>(
-    words: &'a [u16; WORDS],
+    words: &'a [u16],
     p: usize,
     k: usize,
     prefix: &'a [u16; 32],
@@ -240,7 +239,7 @@ pub fn judge<'a>(
 
 // Whether every signbox item, whose rows start at an offset, is served: the verdict without its witnesses.
 fn meets_rows<'a>(
-    words: &'a [u16; WORDS],
+    words: &'a [u16],
     at: usize,
     k: usize,
     codes: &'a [u16; 64],
@@ -267,7 +266,7 @@ fn meets_rows<'a>(
 
 // Whether a sign (p prefix symbols, k signbox symbols) meets a query that lies in words.
 pub fn meets<'a>(
-    words: &'a [u16; WORDS],
+    words: &'a [u16],
     p: usize,
     k: usize,
     prefix: &'a [u16; 32],

@@ -1,5 +1,5 @@
 -- The reading by value, and what is known of a reading by its number.
-use Prim.Native.Nat.{ℕ, _<_}
+use Prim.Native.Nat.{ℕ, _+_, _*_, _≤_, _<_}
 use mathlib.Core.List.{List}
 use mathlib.Core.Path.{_≡_, refl, sym, ap, _∙_}
 use mathlib.Core.Bool.{_&&_}
@@ -10,18 +10,21 @@ use native.Mathlib.Omega.{arith}
 use Rattle.format.specs.Format.{every}
 use Rattle.token.specs.Refusal.{prefixLong, signboxLong, alternativesLong, rangeReversed}
 use Rattle.token.specs.Result.{Result, refusal, done, ofOutcome}
-use Rattle.token.proofs.Checks.{Counted, done-counted, refusal-counted, check-counted, andThen-counted, outcome-counted}
+use Rattle.token.proofs.Checks.{Counted, done-counted, refusal-counted, check-counted, andThen-counted, outcome-counted, andThen-done}
+use Rattle.token.proofs.Results.{outcome-done}
 use Rattle.token.specs.Padded.{padded, zeros}
 use Rattle.querygrammar.specs.declared.Edition.{Edition}
 use Rattle.querygrammar.specs.Spelling.{spelling}
 use Rattle.querygrammar.specs.Query.{Query, meaning, listsOf, soughtLists}
 use Rattle.querygrammar.specs.QueryLaws.{readQuery}
-use Rattle.queryitem.specs.Words.{wordCount, wordsOf}
+use Rattle.queryitem.specs.Words.{spare, wordCount, wordsOf}
+use Rattle.queryitem.proofs.TextSizes.{text-size}
 use Rattle.querypart.specs.Spots.{firstReversed}
 use Rattle.querypart.specs.Inner.{few}
 use Rattle.query.specs.declared.words.Head.{Head}
 use Rattle.query.specs.Reading.{spotsOf, inOrder, limited, queryOf, readingOf}
-use Rattle.query.specs.Inner.{headOf, ReadInto}
+use Rattle.query.specs.Inner.{headOf, Fits, ReadInto}
+use Rattle.query.proofs.Accepted.{limited-passed, query-accepted}
 
 -- no refusal has the number 0
 order-counted : (o : Option ℕ) (q : Query) → Counted (inOrder o q)
@@ -40,30 +43,44 @@ query-counted e s =
     andThen-counted (ofOutcome (length s) (readQuery e s)) _ (outcome-counted (length s) (readQuery e s))
     (λ t. limited-counted (meaning (spelling e .means) t) (firstReversed (spotsOf (spelling e) t)))
 
-module _ (e : Edition) (s : List ℕ) (h : Head) (words : List ℕ) (v : ReadInto e s h words) where
+-- ROOM: of every query in an array of wordCount, and of a short text's query in a short one
+pub all-fit : (e : Edition) (s : List ℕ) → Fits e s wordCount
+all-fit e s q z = query-accepted e s q z .room
+
+pub short-fit : (e : Edition) (s : List ℕ) (n : ℕ) → 4 + 6 * length s + spare ≤ n → Fits e s n
+unfolding queryOf
+short-fit e s n h q z =
+    let d = andThen-done (ofOutcome (length s) (readQuery e s)) _ z in
+    let t = d .0 in
+    let p = limited-passed (meaning (spelling e .means) t) q (firstReversed (spotsOf (spelling e) t)) (d .1 .1) in
+    rw (← p .same) (omega (arith, h, text-size e s t (outcome-done (length s) (readQuery e s) t (d .1 .0))))
+
+module _ (e : Edition) (s : List ℕ) (n : ℕ) (fits : Fits e s n) (h : Head) (words : List ℕ) (v : ReadInto e s n h words) where
   pub data Known : Type 0 where
     not-read : queryOf e s ≡ refusal (h .number) (h .place) → 0 < h .number → Known
-    was-read : (q : Query) → queryOf e s ≡ done q → h .number ≡ 0 → words ≡ padded wordCount (wordsOf q) → Known
+    was-read : (q : Query) → queryOf e s ≡ done q → h .number ≡ 0 → words ≡ padded n (wordsOf q) → Known
 
   pub known : Known
   known = go (queryOf e s) refl (v .is)
     where
       go : (r : Result Query) → queryOf e s ≡ r → h ≡ headOf r → Known
       go (refusal n p) z q = not-read (z ∙ sym (λ i. refusal (q i .number) (q i .place))) (let a : h .number ≡ n = ap (λ k. k .number) q in omega (arith, query-counted e s n p z))
-      go (done k) z q = was-read k z (ap (λ k. k .number) q) (v .holds k z)
+      go (done k) z q = was-read k z (ap (λ k. k .number) q) (v .holds k z (fits k z))
 
+-- the reading by value
+module _ (e : Edition) (s : List ℕ) (h : Head) (words : List ℕ) (v : ReadInto e s wordCount h words) where
   pub reading-refused : (h .number ≡ 0 → ⊥) → record { number = h .number; place = h .place; words = zeros wordCount } ≡ readingOf (queryOf e s)
   unfolding readingOf
-  reading-refused z = go known
+  reading-refused z = go (known e s wordCount (all-fit e s) h words v)
     where
-      go : Known → record { number = h .number; place = h .place; words = zeros wordCount } ≡ readingOf (queryOf e s)
+      go : Known e s wordCount (all-fit e s) h words v → record { number = h .number; place = h .place; words = zeros wordCount } ≡ readingOf (queryOf e s)
       go (not-read q n) = sym (ap readingOf q)
       go (was-read k q n w) = absurd (z n)
 
   pub reading-done : h .number ≡ 0 → record { number = 0; place = 0; words = words } ≡ readingOf (queryOf e s)
   unfolding readingOf
-  reading-done z = go known
+  reading-done z = go (known e s wordCount (all-fit e s) h words v)
     where
-      go : Known → record { number = 0; place = 0; words = words } ≡ readingOf (queryOf e s)
+      go : Known e s wordCount (all-fit e s) h words v → record { number = 0; place = 0; words = words } ≡ readingOf (queryOf e s)
       go (not-read q n) = absurd (omega arith)
       go (was-read k q n w) = (λ i. record { number = 0; place = 0; words = w i }) ∙ sym (ap readingOf q)

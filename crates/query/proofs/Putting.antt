@@ -1,5 +1,5 @@
 -- Words that are put one after the other, and the limits.
-use Prim.Native.Nat.{ℕ, zero, suc, _+_, _≤_, _<_}
+use Prim.Native.Nat.{ℕ, zero, suc, _+_, _-_, _≤_, _<_}
 use mathlib.Core.List.{List, [], _∷_, _++_, map}
 use mathlib.Core.Path.{_≡_, refl, sym, ap, _∙_}
 use mathlib.Core.Bool.{Bool, true, false, not, _&&_}
@@ -16,7 +16,7 @@ use Rattle.token.specs.Padded.{padded, zeros}
 use Rattle.token.proofs.Checks.{check-failed}
 use Rattle.token.proofs.PaddedLists.{padded-none, sets-append, sets-padded}
 use Rattle.querygrammar.specs.Query.{Query, listsOf, soughtLists, kindOf}
-use Rattle.queryitem.specs.Words.{wordCount, rowsWords, bare, wordsOf}
+use Rattle.queryitem.specs.Words.{rowsWords, bare, wordsOf}
 use Rattle.querypart.specs.Inner.{orZero, few}
 use Rattle.query.specs.declared.words.Head.{Head}
 use Rattle.query.specs.Reading.{inOrder, limited}
@@ -25,23 +25,27 @@ use Rattle.query.specs.Inner.{headOf, ordered, limits, LimitedInto}
 -- THE WORDS
 
 -- rows after four words that are not put yet, and then these
-head-put : (a b c d : ℕ) (rows : List ℕ) → sets (sets (zeros wordCount) 4 rows) 0 (a ∷ b ∷ c ∷ d ∷ []) ≡ padded wordCount (a ∷ b ∷ c ∷ d ∷ rows)
+head-more : (n a b c d : ℕ) (rows : List ℕ) → sets (sets (zeros (suc (suc (suc (suc n))))) 4 rows) 0 (a ∷ b ∷ c ∷ d ∷ []) ≡ padded (suc (suc (suc (suc n)))) (a ∷ b ∷ c ∷ d ∷ rows)
 unfolding padded
-head-put a b c d rows =
+head-more n a b c d rows =
     let z : List ℕ = 0 ∷ 0 ∷ 0 ∷ 0 ∷ [] in
-    ap (λ l. sets l 0 (a ∷ b ∷ c ∷ d ∷ [])) (ap (λ l. sets l 4 rows) (padded-none wordCount) ∙ sets-padded wordCount rows z)
+    let k : ℕ = suc (suc (suc (suc n))) in
+    ap (λ l. sets l 0 (a ∷ b ∷ c ∷ d ∷ [])) (ap (λ l. sets l 4 rows) (padded-none k) ∙ sets-padded k rows z)
+
+head-put : (n a b c d : ℕ) (rows : List ℕ) → 4 ≤ n → sets (sets (zeros n) 4 rows) 0 (a ∷ b ∷ c ∷ d ∷ []) ≡ padded n (a ∷ b ∷ c ∷ d ∷ rows)
+head-put n a b c d rows h = let e : n ≡ suc (suc (suc (suc (n - 4)))) = omega (arith, h) in rw e (head-more (n - 4) a b c d rows)
 
 -- the rows of the prefix, those of the signbox, and the first four words
-pub query-put : (q : Query) (before row : ℕ) (o : List ℕ) → before ≡ length (listsOf (q .prefix))
-    → o ≡ sets (zeros wordCount) 4 (rowsWords (map bare (listsOf (q .prefix)))) → row ≡ 4 + length (rowsWords (map bare (listsOf (q .prefix))))
-    → sets (sets o row (rowsWords (q .items))) 0 (kindOf (q .prefix) ∷ before ∷ length (q .items) ∷ q .variance ∷ []) ≡ padded wordCount (wordsOf q)
+pub query-put : (n : ℕ) (q : Query) (before row : ℕ) (o : List ℕ) → 4 ≤ n → before ≡ length (listsOf (q .prefix))
+    → o ≡ sets (zeros n) 4 (rowsWords (map bare (listsOf (q .prefix)))) → row ≡ 4 + length (rowsWords (map bare (listsOf (q .prefix))))
+    → sets (sets o row (rowsWords (q .items))) 0 (kindOf (q .prefix) ∷ before ∷ length (q .items) ∷ q .variance ∷ []) ≡ padded n (wordsOf q)
 unfolding wordsOf
-query-put q before row o c e k =
+query-put n q before row o h c e k =
     let first = rowsWords (map bare (listsOf (q .prefix))) in
     let then = rowsWords (q .items) in
     (λ i. sets (sets (e i) (k i) then) 0 (kindOf (q .prefix) ∷ c i ∷ length (q .items) ∷ q .variance ∷ []))
-    ∙ ap (λ l. sets l 0 (kindOf (q .prefix) ∷ length (listsOf (q .prefix)) ∷ length (q .items) ∷ q .variance ∷ [])) (sets-append first then (zeros wordCount) 4)
-    ∙ head-put (kindOf (q .prefix)) (length (listsOf (q .prefix))) (length (q .items)) (q .variance) (first ++ then)
+    ∙ ap (λ l. sets l 0 (kindOf (q .prefix) ∷ length (listsOf (q .prefix)) ∷ length (q .items) ∷ q .variance ∷ [])) (sets-append first then (zeros n) 4)
+    ∙ head-put n (kindOf (q .prefix)) (length (listsOf (q .prefix))) (length (q .items)) (q .variance) (first ++ then) h
 
 -- THE LIMITS
 
@@ -67,7 +71,7 @@ module _ (kind before count variance : ℕ) (crowded : Bool) (reversed : ℕ) (o
         pub limited-5 : (reversed ≡ 0 → ⊥) → h ≡ record { number = rangeReversed; place = reversed } → LimitedInto kind before count variance crowded reversed o h o
         limited-5 d = refused-as rangeReversed reversed (rw (le-leb before 32 a, le-leb count 32 b, c, ne-eqb reversed 0 d)) (omega arith)
 
-        pub limited-done : reversed ≡ 0 → h ≡ record { number = 0; place = 0 } → LimitedInto kind before count variance crowded reversed o h (set (set (set (set o 0 kind) 1 before) 2 count) 3 variance)
+        pub limited-done : reversed ≡ 0 → h ≡ record { number = 0; place = 0 } → LimitedInto kind before count variance crowded reversed o h (sets (set o 0 kind) 1 (before ∷ count ∷ variance ∷ []))
         limited-done d q = record { is = q ∙ rw (le-leb before 32 a, le-leb count 32 b, c, eq-eqb reversed 0 d); holds = λ z. refl }
 
 -- what is within the limits, by the number of its answer

@@ -24,6 +24,7 @@ use Rattle.querygrammar.specs.Spelling.{spelling}
 use Rattle.querygrammar.specs.Query.{SoughtText, signboxList, Figures, variance, varianceOf, TailText, tail}
 use Rattle.querygrammar.proofs.Items.{lawful}
 use Rattle.querygrammar.proofs.Query.{signbox-lists-lawful}
+use Rattle.queryitem.specs.Words.{spare}
 use Rattle.querypart.specs.declared.items.Count.{Count}
 use Rattle.querypart.specs.Spots.{allSpots}
 use Rattle.querypart.specs.Inner.{toldEnd, varianceEnd, firstOf, orEarlier, item, allWords, allFew, countOf, ItemsIn}
@@ -53,7 +54,7 @@ module _ (e : Edition) (boxed : Bool) (s : List ℕ) (at from : ℕ) (r : Count)
     pub count : r .count ≡ length items
     pub first : r .reversed ≡ firstOf (allSpots (item e boxed .format) (item e boxed .spots) at items)
     pub crowd : r .crowded ≡ not (allFew (item e boxed) items)
-    pub held : length items ≤ 32 → allFew (item e boxed) items ≡ true
+    pub held : from + length (allWords (item e boxed) items) + spare ≤ length o → allFew (item e boxed) items ≡ true
         → (p ≡ sets o from (allWords (item e boxed) items)) × (r .row ≡ from + length (allWords (item e boxed) items))
 
   read-go : (l : Located (List (item e boxed .Says))) → all ≡ l → r ≡ countOf (item e boxed) (r .row) at (ofLocated (length s) l) → r .number ≡ 0 → Read
@@ -143,7 +144,7 @@ module _ (e : Edition) (s : List ℕ) (kind : ℕ) (c : Count) (inside : c .plac
       tail-short h x = tail-not h o p textShort (length s) (ap (ofOutcome (length s)) (tail-end ∙ ap (onFine (λ f. (k .items, f))) (end-short varianceOf last (sym told ∙ x))))
 
       tail-as : (h : Head) (q : List ℕ) (a : TailText (spelling e .Says)) → whole ≡ fine a → h ≡ headOf (limits (c .count) (length (a .0)) (crowd a) (first a))
-          → (h .number ≡ 0 → q ≡ sets (sets o (c .row) (allWords (item e true) (a .0))) 0 (kind ∷ c .count ∷ length (a .0) ∷ varianceOf (a .1) ∷ []))
+          → (h .number ≡ 0 → c .row + length (allWords (item e true) (a .0)) + spare ≤ length o → q ≡ sets (sets o (c .row) (allWords (item e true) (a .0))) 0 (kind ∷ c .count ∷ length (a .0) ∷ varianceOf (a .1) ∷ []))
           → TailIn e s kind c o h q
       tail-as h q a x is put = record {
         is = is ∙ rw x refl;
@@ -159,9 +160,9 @@ module _ (e : Edition) (s : List ℕ) (kind : ℕ) (c : Count) (inside : c .plac
           let is : h ≡ headOf (limits (c .count) (length (k .items)) (crowd a) (first a)) =
           l .is ∙ (λ i. headOf (limits (c .count) (k .count i) ((f ∙ ap (λ t. c .crowded || t) (k .crowd)) i) ((g ∙ ap (orEarlier (c .reversed)) (k .first)) i))) in
           tail-as h q a (tail-end ∙ ap (onFine (λ f. (k .items, f))) (y .1)) is
-          (λ n.
+          (λ n room.
           let w = limits-passed (c .count) (length (k .items)) (crowd a) (first a) (sym (ap (λ h. h .number) is) ∙ n) in
-          l .holds n ∙ (λ i. sets (k .held (w .signbox) (all-few (c .crowded) (allFew (item e true) (k .items)) (w .alternatives)) .0 i) 0 (kind ∷ c .count ∷ k .count i ∷ sym (y .2) i ∷ [])))
+          l .holds n ∙ (λ i. sets (k .held room (all-few (c .crowded) (allFew (item e true) (k .items)) (w .alternatives)) .0 i) 0 (kind ∷ c .count ∷ k .count i ∷ sym (y .2) i ∷ [])))
         where
           all-few : (s t : Bool) → s || not t ≡ false → t ≡ true
           all-few s true e = refl

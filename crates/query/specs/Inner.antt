@@ -18,7 +18,7 @@ use Rattle.querygrammar.specs.declared.Edition.{Edition}
 use Rattle.querygrammar.specs.Spelling.{spelling}
 use Rattle.querygrammar.specs.Query.{Query, HeadText, TailText, kindOf, prefixLists, head, tail, afterQ, query, prefixOf, listsOf, varianceOf}
 use Rattle.querygrammar.specs.QueryLaws.{readQuery}
-use Rattle.queryitem.specs.Words.{wordCount, rowsWords, bare, wordsOf}
+use Rattle.queryitem.specs.Words.{spare, rowsWords, bare, wordsOf}
 use Rattle.querypart.specs.declared.items.Count.{Count}
 use Rattle.querypart.specs.Spots.{allSpots}
 use Rattle.querypart.specs.Inner.{firstOf, orEarlier, item, few, allFew, allWords}
@@ -29,6 +29,10 @@ use Rattle.query.specs.Reading.{headSpots, queryOf}
 abbrev pub headOf : {A : Type 0} → Result A → Head
 headOf (refusal number place) = record { number = number; place = place }
 headOf (done a) = record { number = 0; place = 0 }
+
+-- words as they are lent: zeros, with room for an item
+abbrev pub Blank : List ℕ → Type 0
+Blank words = (31 ≤ length words) × (words ≡ zeros (length words))
 
 -- THE LIMITS AND THE ORDER, with 0 for no reversed range
 
@@ -57,6 +61,7 @@ module _ (e : Edition) where
         λ t. limits (c .count) (length (t .0)) (c .crowded || not (allFew (item e true) (t .0)))
         (orEarlier (c .reversed) (firstOf (allSpots (item e true .format) (item e true .spots) (c .place) (t .0)))))
     pub holds : (t : TailText (spelling e .Says)) → ended 1 (length s) (locate (tail (spelling e)) s (c .place)) ≡ fine t → h .number ≡ 0
+        → c .row + length (allWords (item e true) (t .0)) + spare ≤ length o
         → p ≡ sets (sets o (c .row) (allWords (item e true) (t .0))) 0 (kind ∷ c .count ∷ length (t .0) ∷ varianceOf (t .1) ∷ [])
 
   -- WHAT FOLLOWS THE Q
@@ -79,29 +84,35 @@ module _ (e : Edition) where
     pub asks : Asks s
     pub opened : Opened 2 s
 
-  -- what asks for a prefix, before the tail
-  pub record Leads (s : List ℕ) (h : Option (HeadText (spelling e .Says))) (kind : ℕ) (c : Count) (o : List ℕ) : Type 0 where
+  -- what asks for a prefix, before the tail, in n words
+  pub record Leads (s : List ℕ) (h : Option (HeadText (spelling e .Says))) (kind n : ℕ) (c : Count) (o : List ℕ) : Type 0 where
     pub is : locate (optional (head (spelling e))) s 1 ≡ found h (c .place)
     pub kinds : kind ≡ kindOf (prefixOf (spelling e .means) h)
     pub count : c .count ≡ length (listsOf (prefixOf (spelling e .means) h))
     pub first : c .reversed ≡ firstOf (headSpots (spelling e) h)
     pub crowd : c .crowded ≡ not (every few (listsOf (prefixOf (spelling e .means) h)))
-    pub held : c .count ≤ 32 → every few (listsOf (prefixOf (spelling e .means) h)) ≡ true
-        → (o ≡ sets (zeros wordCount) 4 (rowsWords (map bare (listsOf (prefixOf (spelling e .means) h)))))
+    pub held : every few (listsOf (prefixOf (spelling e .means) h)) ≡ true
+        → 4 + length (rowsWords (map bare (listsOf (prefixOf (spelling e .means) h)))) + spare ≤ n
+        → (o ≡ sets (zeros n) 4 (rowsWords (map bare (listsOf (prefixOf (spelling e .means) h)))))
         × (c .row ≡ 4 + length (rowsWords (map bare (listsOf (prefixOf (spelling e .means) h)))))
 
-  pub record PrefixIn (s : List ℕ) (kind : ℕ) (r : Count) (p : List ℕ) : Type 0 where
+  pub record PrefixIn (s : List ℕ) (kind n : ℕ) (r : Count) (p : List ℕ) : Type 0 where
     pub failed : (r .number ≡ 0 → ⊥) → ofOutcome (length s) (readQuery e s) ≡ refusal (r .number) (r .place)
-    pub leads : r .number ≡ 0 → (h : Option (HeadText (spelling e .Says))) × Leads s h kind r p
+    pub leads : r .number ≡ 0 → (h : Option (HeadText (spelling e .Says))) × Leads s h kind n r p
     pub room : r .number ≡ 0 → (1 ≤ r .place) × (r .place ≤ length s)
-    pub rows : r .row ≤ 868
-    pub size : length p ≡ wordCount
+    pub rows : r .row ≤ n
+    pub size : length p ≡ n
 
   -- THE QUERY
 
-  pub record ReadInto (s : List ℕ) (h : Head) (words : List ℕ) : Type 0 where
+  -- n words in which every query of a text has room, and 21 more
+  abbrev pub Fits : List ℕ → ℕ → Type 0
+  Fits s n = (q : Query) → queryOf e s ≡ done q → length (wordsOf q) + spare ≤ n
+
+  -- its words lie in the n that were lent if there is room for them and 21 more
+  pub record ReadInto (s : List ℕ) (n : ℕ) (h : Head) (words : List ℕ) : Type 0 where
     pub is : h ≡ headOf (queryOf e s)
-    pub holds : (q : Query) → queryOf e s ≡ done q → words ≡ padded wordCount (wordsOf q)
+    pub holds : (q : Query) → queryOf e s ≡ done q → length (wordsOf q) + spare ≤ n → words ≡ padded n (wordsOf q)
 
 -- what follows the Q opens a query of a kind alike in every edition
 abbrev pub Opens : List ℕ → ℕ → Type 0

@@ -1,5 +1,5 @@
 -- What is proved of reading a query.
-use Prim.Native.Nat.{ℕ, _≤_, _<_}
+use Prim.Native.Nat.{ℕ, _+_, _≤_, _<_}
 use Prim.Native.Char.{code}
 use mathlib.Core.Path.{_≡_}
 use mathlib.Core.List.{List, [], _∷_, _++_, map}
@@ -16,7 +16,7 @@ use Rattle.querygrammar.specs.declared.Edition.the-variants.{First, Second}
 use Rattle.querygrammar.specs.Spelling.{rangeItem, Spelling, first, spelling}
 use Rattle.querygrammar.specs.Query.{Query, query, meaning, listsOf, soughtLists, ValidQuery}
 use Rattle.querygrammar.specs.QueryLaws.{Text, readQuery}
-use Rattle.queryitem.specs.Words.{wordCount, wordsOf}
+use Rattle.queryitem.specs.Words.{spare, wordCount, wordsOf}
 use Rattle.querypart.specs.Spots.{Spot, reversed}
 use Rattle.query.specs.Reading.{spotsOf, queryOf, readingOf}
 
@@ -26,7 +26,7 @@ pub record Accepted (q : Query) : Type 0 where
   pub prefix-most : length (listsOf (q .prefix)) ≤ 32
   pub items-most : length (q .items) ≤ 32
   pub alternatives-most : All (λ l. length l ≤ 8) (listsOf (q .prefix)) × All (λ l. length l ≤ 8) (soughtLists q)
-  pub room : length (wordsOf q) ≤ wordCount
+  pub room : length (wordsOf q) + spare ≤ wordCount
 
 -- an item is written at an offset of a text, as one of the prefix or one of the signbox
 pub record Stands (s : Spelling) (text : List ℕ) (spot : Spot) : Type 0 where

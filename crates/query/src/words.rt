@@ -3,17 +3,15 @@ ghost use mathlib.Core.Path.{_≡_};
 ghost use Prim.Native.Nat.{_≤_};
 ghost use mathlib.Core.Bool.{_||_};
 ghost use lib.ListN.{length};
-ghost use Rattle.token.specs.Padded.{zeros};
-ghost use Rattle.queryitem.specs.Words.{wordCount};
-ghost use Rattle.query.specs.Inner.{LimitedInto, TailIn, Asks, OpensWith, Opens, Prefixed, PrefixIn, ReadInto};
+ghost use Rattle.query.specs.Inner.{Blank, LimitedInto, TailIn, Asks, OpensWith, Opens, Prefixed, PrefixIn, ReadInto};
 use querygrammar::Edition;
 use queryitem::words::BEGINS;
 use queryitem::words::FIRST_ROW;
 use queryitem::words::FREE;
 use queryitem::words::MOST_ITEMS;
 use queryitem::words::PRESENT;
-use queryitem::words::WORDS;
 use querypart::alternatives::or_earlier;
+use querypart::alternatives::put_three;
 use querypart::items::Count;
 use querypart::items::counted;
 use querypart::items::items_into;
@@ -41,7 +39,7 @@ fn answer(number: u8, place: usize) -> Head
 
 // The limits and the order of ranges are judged after the text. The first four words are put last.
 fn limited_into(
-    words: &mut [u16; WORDS],
+    words: &mut [u16],
     kind: u16,
     before: usize,
     count: usize,
@@ -49,7 +47,7 @@ fn limited_into(
     crowded: bool,
     reversed: usize,
 ) -> Head
-    requires { ⌜ length (now words) ≡ wordCount ⌝ }
+    requires { ⌜ 4 ≤ length (now words) ⌝ }
     ensures { λ r. ⌜ LimitedInto kind before count variance crowded reversed (now (words .entry)) r (now (words .exit)) ⌝ }
 {
     if MOST_ITEMS < before {
@@ -65,9 +63,7 @@ fn limited_into(
         return answer(RANGE_REVERSED, reversed);
     }
     words[0] = kind;
-    words[1] = before as u16;
-    words[2] = count as u16;
-    words[3] = variance;
+    put_three(words, 1, before as u16, count as u16, variance);
     answer(DONE, 0)
 }
 
@@ -82,8 +78,8 @@ fn either(one: bool, other: bool) -> bool
 }
 
 // The signbox items and the variance, up to the end of the text, after a prefix condition of a kind whose items were counted.
-fn tail_into(s: &[u8], edition: Edition, kind: u16, before: Count, words: &mut [u16; WORDS]) -> Head
-    requires { ⌜ (1 ≤ before .place) × (before .place ≤ length (now s)) × (before .row ≤ 868) × (length (now words) ≡ wordCount) ⌝ }
+fn tail_into(s: &[u8], edition: Edition, kind: u16, before: Count, words: &mut [u16]) -> Head
+    requires { ⌜ (1 ≤ before .place) × (before .place ≤ length (now s)) × (31 ≤ length (now words)) × (before .row ≤ length (now words)) ⌝ }
     ensures { λ r. ⌜ TailIn edition (now (s .entry)) kind before (now (words .entry)) r (now (words .exit)) ⌝ }
 {
     let t = items_into(s, before.place, edition, true, words, before.row);
@@ -120,9 +116,9 @@ fn opens_with(s: &[u8]) -> u16
 }
 
 // The items of the prefix after their A, and the T.
-fn prefix_items_into(s: &[u8], edition: Edition, words: &mut [u16; WORDS]) -> Count
-    requires { ⌜ Prefixed edition (now s) × (now words ≡ zeros wordCount) ⌝ }
-    ensures { λ r. ⌜ PrefixIn edition (now (s .entry)) 2 r (now (words .exit)) ⌝ }
+fn prefix_items_into(s: &[u8], edition: Edition, words: &mut [u16]) -> Count
+    requires { ⌜ Prefixed edition (now s) × Blank (now words) ⌝ }
+    ensures { λ r. ⌜ PrefixIn edition (now (s .entry)) 2 (length (now (words .entry))) r (now (words .exit)) ⌝ }
 {
     let t = items_into(s, 2, edition, false, words, FIRST_ROW);
     let number = t.number;
@@ -145,9 +141,9 @@ fn prefix_items_into(s: &[u8], edition: Edition, words: &mut [u16; WORDS]) -> Co
 }
 
 // What asks for a prefix, of a kind: nothing, T, or items.
-fn prefix_into(s: &[u8], edition: Edition, kind: u16, words: &mut [u16; WORDS]) -> Count
-    requires { ⌜ Asks edition (now s) × (OpensWith edition (now s) kind) × (now words ≡ zeros wordCount) ⌝ }
-    ensures { λ r. ⌜ PrefixIn edition (now (s .entry)) kind r (now (words .exit)) ⌝ }
+fn prefix_into(s: &[u8], edition: Edition, kind: u16, words: &mut [u16]) -> Count
+    requires { ⌜ Asks edition (now s) × (OpensWith edition (now s) kind) × Blank (now words) ⌝ }
+    ensures { λ r. ⌜ PrefixIn edition (now (s .entry)) kind (length (now (words .entry))) r (now (words .exit)) ⌝ }
 {
     if kind == BEGINS {
         return prefix_items_into(s, edition, words);
@@ -159,9 +155,9 @@ fn prefix_into(s: &[u8], edition: Edition, kind: u16, words: &mut [u16; WORDS]) 
 }
 
 // What follows the Q.
-fn after_q_into(s: &[u8], edition: Edition, words: &mut [u16; WORDS]) -> Head
-    requires { ⌜ Asks edition (now s) × (now words ≡ zeros wordCount) ⌝ }
-    ensures { λ r. ⌜ ReadInto edition (now (s .entry)) r (now (words .exit)) ⌝ }
+fn after_q_into(s: &[u8], edition: Edition, words: &mut [u16]) -> Head
+    requires { ⌜ Asks edition (now s) × Blank (now words) ⌝ }
+    ensures { λ r. ⌜ ReadInto edition (now (s .entry)) (length (now (words .entry))) r (now (words .exit)) ⌝ }
 {
     let kind = opens_with(s);
     let t = prefix_into(s, edition, kind, words);
@@ -173,10 +169,10 @@ fn after_q_into(s: &[u8], edition: Edition, words: &mut [u16; WORDS]) -> Head
     tail_into(s, edition, kind, t, words)
 }
 
-// Reads a query into words that are zeros.
-pub fn read_into(edition: Edition, s: &[u8], words: &mut [u16; WORDS]) -> Head
-    requires { ⌜ now words ≡ zeros wordCount ⌝ }
-    ensures { λ r. ⌜ ReadInto edition (now (s .entry)) r (now (words .exit)) ⌝ }
+// Reads a query into words that are zeros. Their first are the query's if there is room for them and 21 more.
+pub fn read_into(edition: Edition, s: &[u8], words: &mut [u16]) -> Head
+    requires { ⌜ Blank (now words) ⌝ }
+    ensures { λ r. ⌜ ReadInto edition (now (s .entry)) (length (now (words .entry))) r (now (words .exit)) ⌝ }
 {
     match token::reading::byte_at(s, 0, b'Q') {
         Token::Value(_) => after_q_into(s, edition, words),

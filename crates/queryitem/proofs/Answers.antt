@@ -1,13 +1,14 @@
 -- An item in each edition of FSW, and what a caller knows of what it is answered.
-use Prim.Native.Nat.{ℕ}
+use Prim.Native.Nat.{ℕ, _≤_}
 use mathlib.Core.List.{List}
-use mathlib.Core.Path.{_≡_, refl}
-use mathlib.Core.Bool.{Bool, true, false, not}
+use mathlib.Core.Path.{_≡_, refl, sym, ap}
+use mathlib.Core.Bool.{Bool, true, false}
 use mathlib.Core.Option.{Option}
 use lib.ListN.{length}
-use Rattle.format.specs.Format.{optional}
+use native.Mathlib.Omega.{arith}
+use Rattle.format.specs.Format.{choose, optional}
 use Rattle.format.specs.Located.{Located, found, wrongAt, shortHere, locate, onFound}
-use Rattle.charset.specs.declared.Charset.the-variants.{Fsw}
+use Rattle.charset.specs.declared.Charset.the-variants.{Fsw, Swu}
 use Rattle.token.specs.Result.{ofLocated}
 use Rattle.querygrammar.specs.declared.Edition.{Edition}
 use Rattle.querygrammar.specs.declared.Edition.the-variants.{First, Second}
@@ -21,17 +22,30 @@ use Rattle.queryitem.specs.declared.reading.Piece.the-variants.{Found, W
 use Rattle.queryitem.specs.declared.coordinate.Place.{Place}
 use Rattle.queryitem.specs.declared.coordinate.Place.the-variants as place
 use Rattle.queryitem.specs.Numbers.{numbersOf, xOf, yOf}
-use Rattle.queryitem.specs.Pieces.{toldPiece, pieceAt, fswAt, itemOf, itemAt, toldPlace, coordinateAt, pieceResult, placeResult, PieceResult, PlaceResult}
+use Rattle.queryitem.specs.Pieces.{toldPiece, pieceAt, fswAt, swuAt, itemOf, inSwu, hasNull, leastOf, itemAt, toldPlace, coordinateAt, pieceResult, placeResult, PieceResult, PlaceResult}
 
-pub item-first : (boxed : Bool) (s : List ℕ) (at : ℕ) (r : Piece) → r ≡ fswAt false s at → r ≡ itemAt First boxed s at
-unfolding itemAt
-item-first true s at r q = q
-item-first false s at r q = q
+true-false : true ≡ false → ⊥
+true-false e = let z : _≡_ {A = ℕ} 0 1 = ap (λ t. choose t 0 1) e in omega arith
 
-pub item-fsw : (boxed : Bool) (s : List ℕ) (at : ℕ) (r : Piece) → r ≡ fswAt (not boxed) s at → r ≡ itemAt (Second Fsw) boxed s at
+pub item-fsw : (e : Edition) (boxed : Bool) (s : List ℕ) (at : ℕ) (r : Piece) → inSwu e ≡ false → r ≡ fswAt (hasNull e boxed) s at → r ≡ itemAt e boxed s at
 unfolding itemAt
-item-fsw true s at r q = q
-item-fsw false s at r q = q
+item-fsw First true s at r n q = q
+item-fsw First false s at r n q = q
+item-fsw (Second Fsw) true s at r n q = q
+item-fsw (Second Fsw) false s at r n q = q
+item-fsw (Second Swu) boxed s at r n q = absurd (true-false n)
+
+pub item-swu : (e : Edition) (boxed : Bool) (s : List ℕ) (at : ℕ) (r : Piece) → inSwu e ≡ true → r ≡ swuAt (leastOf boxed) s at → r ≡ itemAt e boxed s at
+unfolding itemAt
+item-swu First boxed s at r y q = absurd (true-false (sym y))
+item-swu (Second Fsw) boxed s at r y q = absurd (true-false (sym y))
+item-swu (Second Swu) true s at r y q = q
+item-swu (Second Swu) false s at r y q = q
+
+-- the least code is 0 or 1
+pub least-most : (boxed : Bool) → leastOf boxed ≤ 1
+least-most true = omega arith
+least-most false = omega arith
 
 pub item-laws : (e : Edition) (boxed : Bool) → Laws Unmarked (itemOf (spelling e) boxed)
 item-laws e true = lawful e .signboxItem

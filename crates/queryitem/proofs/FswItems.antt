@@ -2,7 +2,7 @@
 use Prim.Native.Nat.{ℕ, _+_}
 use mathlib.Core.List.{List}
 use mathlib.Core.Path.{_≡_, refl, sym, ap, _∙_}
-use mathlib.Core.Bool.{true, false}
+use mathlib.Core.Bool.{Bool, true, false}
 use mathlib.Core.Logic.{_⊎_, inl, inr}
 use lib.ListN.{drop}
 use native.Mathlib.Omega.{arith}
@@ -23,7 +23,7 @@ use Rattle.queryitem.specs.declared.reading.Numbers.{Numbers}
 use Rattle.queryitem.specs.declared.reading.Piece.{Piece}
 use Rattle.queryitem.specs.declared.reading.Piece.the-variants.{Found, Wrong, Short}
 use Rattle.queryitem.specs.Numbers.{numbersOf}
-use Rattle.queryitem.specs.Pieces.{pieceAt, symbolAt}
+use Rattle.queryitem.specs.Pieces.{pieceAt, nullAt, symbolAt}
 use Rattle.queryitem.proofs.Chains.{byte-there, wrong-token, short-token, found-piece, piece-fails, piece-is, after-fails, after-next, first-piece, second-piece}
 
 abbrev symbolNumbers : ℕ ⊎ KeyText → Numbers
@@ -35,11 +35,11 @@ KeyAt s at r = r ≡ pieceAt keyTail (λ k. symbolNumbers (inr k)) s at
 -- A SYMBOL AFTER ITS S
 
 module _ (s : List ℕ) (at : ℕ) (r : Piece) where
-  pub key-only : KeyAt s at r → r ≡ symbolAt false s at
+  key-only : KeyAt s at r → r ≡ symbolAt false s at
   key-only = piece-is keyOnly symbolNumbers s at keyTail inr at r (mapped-at keyTail inr keyIn ValidKey s at)
 
   module _ (t : Token) (e : t ≡ tokenAt null s at) where
-    pub key-after : (p : ℕ) → t ≡ token.Wrong p → p ≡ at → KeyAt s at r → r ≡ symbolAt true s at
+    key-after : (p : ℕ) → t ≡ token.Wrong p → p ≡ at → KeyAt s at r → r ≡ symbolAt true s at
     key-after p v z =
         piece-is nullOrKey symbolNumbers s at keyTail inr at r
         (either-second null keyTail s at (null-delimited .firm) (wrong-token null s at p t e v ∙ ap wrongAt z))
@@ -49,19 +49,37 @@ module _ (s : List ℕ) (at : ℕ) (r : Piece) where
     unfolding tokenAt
     null-first n = piece-is nullOrKey symbolNumbers s at null inl at r (either-first null keyTail s at (λ z. n (e ∙ ap told z)))
 
-pub null-found : (s : List ℕ) (at a : ℕ) (t : Token) (n : Numbers) → t ≡ tokenAt null s at → t ≡ token.Value a → n ≡ numbersOf nullItem → Found n (at + 5) ≡ symbolAt true s at
+null-found : (s : List ℕ) (at a : ℕ) (t : Token) (n : Numbers) → t ≡ tokenAt null s at → t ≡ token.Value a → n ≡ numbersOf nullItem → Found n (at + 5) ≡ symbolAt true s at
 null-found s at a t n e v q =
     let l = told-at 1 5 null (record { delimited = null-delimited; size = λ v ok. refl }) s at a (sym e ∙ v) in
     null-first s at (Found n (at + 5)) t e (λ z. let y : _≡_ {A = ℕ} 0 1 = cc in omega arith) (found-piece null (λ c. numbersOf nullItem) s at a (at + 5) (at + 5) n (l .is) refl q)
 
-pub null-wrong : (s : List ℕ) (at p : ℕ) (t : Token) → t ≡ tokenAt null s at → t ≡ token.Wrong p → (p ≡ at → ⊥) → Wrong p ≡ symbolAt true s at
+null-wrong : (s : List ℕ) (at p : ℕ) (t : Token) → t ≡ tokenAt null s at → t ≡ token.Wrong p → (p ≡ at → ⊥) → Wrong p ≡ symbolAt true s at
 null-wrong s at p t e v n =
     null-first s at (Wrong p) t e (λ z. n (cc)) (piece-fails null (λ c. numbersOf nullItem) s at (Wrong p) (rw (wrong-token null s at p t e v) refl))
 
-pub null-short : (s : List ℕ) (at : ℕ) (t : Token) → t ≡ tokenAt null s at → t ≡ token.Short → Short ≡ symbolAt true s at
+null-short : (s : List ℕ) (at : ℕ) (t : Token) → t ≡ tokenAt null s at → t ≡ token.Short → Short ≡ symbolAt true s at
 null-short s at t e v =
     null-first s at Short t e (λ z. let y : _≡_ {A = ℕ} 0 1 = cc in omega arith)
     (piece-fails null (λ c. numbersOf nullItem) s at Short (rw (short-token null s at t e v) refl))
+
+-- with null or without
+module _ (s : List ℕ) (at : ℕ) (t : Token) where
+  pub symbol-key : (may : Bool) (p : ℕ) (r : Piece) → t ≡ nullAt may s at → t ≡ token.Wrong p → p ≡ at → KeyAt s at r → r ≡ symbolAt may s at
+  symbol-key true p r e v z q = key-after s at r t e p v z q
+  symbol-key false p r e v z q = key-only s at r q
+
+  pub symbol-null : (may : Bool) (a : ℕ) (n : Numbers) → t ≡ nullAt may s at → t ≡ token.Value a → n ≡ numbersOf nullItem → Found n (at + 5) ≡ symbolAt may s at
+  symbol-null true a n e v q = null-found s at a t n e v q
+  symbol-null false a n e v q = absurd (let z : _≡_ {A = ℕ} 0 1 = cc in omega arith)
+
+  pub symbol-wrong : (may : Bool) (p : ℕ) → t ≡ nullAt may s at → t ≡ token.Wrong p → (p ≡ at → ⊥) → Wrong p ≡ symbolAt may s at
+  symbol-wrong true p e v n = null-wrong s at p t e v n
+  symbol-wrong false p e v n = absurd (n (cc))
+
+  pub symbol-short : (may : Bool) → t ≡ nullAt may s at → t ≡ token.Short → Short ≡ symbolAt may s at
+  symbol-short true e v = null-short s at t e v
+  symbol-short false e v = absurd (let z : _≡_ {A = ℕ} 0 1 = cc in omega arith)
 
 -- AN ITEM
 

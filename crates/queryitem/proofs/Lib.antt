@@ -5,3 +5,4 @@ pub mod SwuItems
 pub mod Coordinates
 pub mod Answers
 pub mod Rows
+pub mod TextSizes

@@ -1,5 +1,5 @@
 -- The rows of items, one after the other.
-use Prim.Native.Nat.{_*_, _≤_}
+use Prim.Native.Nat.{_+_, _*_, _≤_}
 use mathlib.Core.Path.{_≡_, refl, sym, ap, _∙_}
 use mathlib.Core.List.{List, [], _∷_, _++_, append-assoc, map}
 use lib.ListN.{length, length-append, length-map}
@@ -7,7 +7,7 @@ use native.Mathlib.Omega.{arith}
 use Rattle.format.specs.Format.{All}
 use Rattle.querygrammar.specs.Spelling.{Item}
 use Rattle.querygrammar.specs.Query.{Sought, Query, listsOf, soughtLists}
-use Rattle.queryitem.specs.Words.{wordCount, itemsWords, rowWords, rowsWords, bare, wordsOf}
+use Rattle.queryitem.specs.Words.{spare, wordCount, itemsWords, rowWords, rowsWords, bare, wordsOf}
 
 pub rows-append : (l m : List Sought) → rowsWords (l ++ m) ≡ rowsWords l ++ rowsWords m
 rows-append [] m = refl
@@ -29,8 +29,8 @@ bare-few : (l : List (List Item)) → Few l → Few (map (λ s. s .alternatives)
 bare-few [] few = tt
 bare-few (a ∷ l) few = (few .0, bare-few l (few .1))
 
--- a query within the limits has room
-pub words-room : (q : Query) → length (listsOf (q .prefix)) ≤ 32 → length (q .items) ≤ 32 → Few (listsOf (q .prefix)) → Few (soughtLists q) → length (wordsOf q) ≤ wordCount
+-- a query within the limits has room, and 21 words are left
+pub words-room : (q : Query) → length (listsOf (q .prefix)) ≤ 32 → length (q .items) ≤ 32 → Few (listsOf (q .prefix)) → Few (soughtLists q) → length (wordsOf q) + spare ≤ wordCount
 unfolding wordsOf
 words-room q a b c d =
     let p = map bare (listsOf (q .prefix)) in

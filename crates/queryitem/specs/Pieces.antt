@@ -2,7 +2,7 @@
 use Prim.Native.Nat.{ℕ, _+_, _≤_}
 use mathlib.Core.Path.{_≡_}
 use mathlib.Core.List.{List}
-use mathlib.Core.Bool.{Bool, true, false}
+use mathlib.Core.Bool.{Bool, true, false, not}
 use mathlib.Core.Logic.{_⊎_, inl, inr}
 use mathlib.Core.Option.{Option, none, some}
 use lib.Dec.{eqb}
@@ -11,9 +11,10 @@ use Rattle.format.specs.Format.{Format, choose, optional}
 use Rattle.format.specs.Located.{Located, found, wrongAt, shortHere, locate, onFound}
 use Rattle.charset.specs.declared.Charset.the-variants.{Fsw, Swu}
 use Rattle.charset.specs.Bytes.{byte}
+use Rattle.charset.specs.Tokens.{null}
 use Rattle.token.specs.declared.reading.Token.{Token}
 use Rattle.token.specs.declared.reading.Token.the-variants as token
-use Rattle.token.specs.Token.{told}
+use Rattle.token.specs.Token.{told, tokenAt}
 use Rattle.token.specs.Refusal.{textWrong, textShort}
 use Rattle.token.specs.Result.{Result, refusal, done, ofLocated}
 use Rattle.querygrammar.specs.declared.Edition.{Edition}
@@ -60,11 +61,16 @@ abbrev pub symbol : Bool → Format (ℕ ⊎ KeyText)
 symbol true = nullOrKey
 symbol false = keyOnly
 
+-- null where it may stand, otherwise wrong at once
+abbrev pub nullAt : Bool → List ℕ → ℕ → Token
+nullAt true s at = tokenAt null s at
+nullAt false s at = token.Wrong at
+
 abbrev pub symbolAt : Bool → List ℕ → ℕ → Piece
-symbolAt null s at = pieceAt (symbol null) (λ v. numbersOf (fswMeaning (inl v))) s at
+symbolAt may s at = pieceAt (symbol may) (λ v. numbersOf (fswMeaning (inl v))) s at
 
 abbrev pub fswAt : Bool → List ℕ → ℕ → Piece
-fswAt null s at = pieceAt (fswItem (symbol null)) (λ a. numbersOf (fswMeaning a)) s at
+fswAt may s at = pieceAt (fswItem (symbol may)) (λ a. numbersOf (fswMeaning a)) s at
 
 -- SWU
 
@@ -99,6 +105,20 @@ swuAt least s at = pieceAt (swuItem least) (λ a. numbersOf (swuMeaning a)) s at
 abbrev pub itemOf : (s : Spelling) → Bool → Format (s .Says)
 itemOf s true = s .signboxItem
 itemOf s false = s .prefixItem
+
+-- whether an edition is in SWU, whether null may be sought, and the least code in SWU
+abbrev pub inSwu : Edition → Bool
+inSwu First = false
+inSwu (Second Fsw) = false
+inSwu (Second Swu) = true
+
+abbrev pub hasNull : Edition → Bool → Bool
+hasNull First boxed = false
+hasNull (Second set) boxed = not boxed
+
+abbrev pub leastOf : Bool → ℕ
+leastOf true = 1
+leastOf false = 0
 
 unfoldable pub itemAt : Edition → Bool → List ℕ → ℕ → Piece
 itemAt e boxed s at = pieceAt (itemOf (spelling e) boxed) (λ a. numbersOf (spelling e .means a)) s at

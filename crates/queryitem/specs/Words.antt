@@ -12,9 +12,13 @@ use Rattle.querygrammar.specs.Spelling.{Item}
 use Rattle.querygrammar.specs.Query.{Sought, Query, listsOf, kindOf}
 use Rattle.queryitem.specs.Numbers.{lowest, highest, remainder, xOf, yOf}
 
--- the array has room for 32 prefix items and 32 signbox items of eight alternatives each: 4 + 64 * 27
+-- Reading a query leaves 21 words free at the end. So an array of 1753 has room for 32 prefix items and 32 signbox items of eight
+-- alternatives each: 4 + 64 * 27 + 21.
+abbrev pub spare : ℕ
+spare = 21
+
 abbrev pub wordCount : ℕ
-wordCount = 1732
+wordCount = 1753
 
 abbrev pub itemWords : Item → List ℕ
 itemWords i = lowest i ∷ highest i ∷ remainder i ∷ []

@@ -5,7 +5,7 @@ ghost use lib.ListN.{length};
 ghost use mathlib.Core.Logic.{inl, inr};
 ghost use Rattle.querygrammar.specs.Spelling.{keyItem, rangeItem, nullItem, keyTail, rangeText, fswMeaning};
 ghost use Rattle.queryitem.specs.Numbers.{turnOf, numbersOf};
-ghost use Rattle.queryitem.specs.Pieces.{given, openAt, failedAs, pieceAt, symbolAt, fswAt};
+ghost use Rattle.queryitem.specs.Pieces.{given, openAt, failedAs, pieceAt, nullAt, symbolAt, fswAt};
 use token::reading::LAST_PUNCTUATION;
 use token::reading::Token;
 
@@ -124,21 +124,29 @@ fn key_at(s: &[u8], at: usize) -> Piece
     Piece::Found(key_numbers(b, f, r), at + 5)
 }
 
+// Null where it may stand, otherwise wrong at once.
+fn null_or_wrong_at(s: &[u8], at: usize, null: bool) -> Token
+    requires { ⌜ at + 32 ≤ 2 ^ 64 ⌝ }
+    ensures { λ r. ⌜ r ≡ nullAt null (now (s .entry)) at ⌝ }
+{
+    if null {
+        return token::reading::null_at(s, at);
+    }
+    Token::Wrong(at)
+}
+
 // What follows the S of a symbol key or, where null may stand, of null.
 fn symbol_at(s: &[u8], at: usize, null: bool) -> Piece
     requires { ⌜ at + 32 ≤ 2 ^ 64 ⌝ }
     ensures { λ r. ⌜ r ≡ symbolAt null (now (s .entry)) at ⌝ }
 {
-    if !null {
-        return key_at(s, at);
-    }
-    match token::reading::null_at(s, at) {
+    match null_or_wrong_at(s, at, null) {
         Token::Value(_) => Piece::Found(null_numbers(), at + 5),
         Token::Wrong(p) => {
-            if p == at {
-                return key_at(s, at);
+            if p != at {
+                return Piece::Wrong(p);
             }
-            Piece::Wrong(p)
+            key_at(s, at)
         }
         Token::Short => Piece::Short,
     }

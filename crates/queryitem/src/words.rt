@@ -5,15 +5,18 @@
 //
 // Zeros follow the last row.
 
-// Room for MOST_ITEMS prefix items and MOST_ITEMS signbox items of MOST_ALTERNATIVES each: 4 + 64 * (3 + 8 * 3).
-pub const WORDS: usize = 1732;
+// Room for MOST_ITEMS prefix items and MOST_ITEMS signbox items of MOST_ALTERNATIVES each: 4 + 64 * ROW, and 21 more, since a
+// row is read where the longest has room, though it may be the shortest.
+pub const WORDS: usize = 1753;
 
 pub const MOST_ITEMS: usize = 32;
 
 pub const MOST_ALTERNATIVES: usize = 8;
 
-// The offset of the first row.
+// The offset of the first row, and the words of the longest.
 pub const FIRST_ROW: usize = 4;
+
+pub const ROW: usize = 27;
 
 // What condition 0 asks of the prefix: nothing, that there is one, or that it begins with items.
 pub const FREE: u16 = 0;

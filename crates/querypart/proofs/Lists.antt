@@ -42,7 +42,7 @@ use Rattle.querypart.specs.Spots.{reversed, otherSpots, listSpots, allSp
 use Rattle.querypart.specs.Inner.{orZero, orEarlier, noted, firstOf, Sort, one, means, single, other, alternatives, few, listedAs, OneIn, allWords, allFew, countedAs, AllIn}
 use Rattle.querypart.proofs.Spots.{first-both}
 use Rattle.querypart.proofs.Valid.{item-valid, item-order}
-use Rattle.querypart.proofs.Walks.{Sorted, Failed, wrong-there, short-there, one-found, one-failed}
+use Rattle.querypart.proofs.Walks.{Sorted, Failed, wrong-there, short-there, one-found, one-failed, Again, refused-again}
 use Rattle.querypart.proofs.Walks as Walks
 
 -- what was put, by what was located
@@ -50,7 +50,7 @@ wrong-same : {A : Type 0} {i j : ℕ} → _≡_ {A = Located A} (wrongAt i) (wro
 wrong-same e = cc
 
 pub one-in : (k : Sort) (s : List ℕ) (at slot : ℕ) (r : Listed) (o p : List ℕ) (a : k .Says) (next : ℕ) → locate (k .format) s at ≡ found a next → r ≡ listedAs k at (done (a, next))
-    → length p ≡ wordCount → (few (k .alternatives a) ≡ true → p ≡ sets o slot (k .words a)) → OneIn k s at slot r o p
+    → length p ≡ length o → (few (k .alternatives a) ≡ true → p ≡ sets o slot (k .words a)) → OneIn k s at slot r o p
 one-in k s at slot r o p a next e q z h = record {
   is = q ∙ ap (λ l. listedAs k at (ofLocated (length s) l)) (sym e);
   size = z;
@@ -62,7 +62,7 @@ one-in k s at slot r o p a next e q z h = record {
     same e = cc
 
 pub one-wrong : (k : Sort) (s : List ℕ) (at slot : ℕ) (r : Listed) (o p : List ℕ) (j : ℕ) → locate (k .format) s at ≡ wrongAt j → r ≡ record { number = textWrong; place = j; count = 0; reversed = 0 }
-    → length p ≡ wordCount → (j ≡ at → p ≡ o) → OneIn k s at slot r o p
+    → length p ≡ length o → (j ≡ at → p ≡ o) → OneIn k s at slot r o p
 one-wrong k s at slot r o p j e q z h = record {
   is = q ∙ ap (λ l. listedAs k at (ofLocated (length s) l)) (sym e);
   size = z;
@@ -71,7 +71,7 @@ one-wrong k s at slot r o p j e q z h = record {
 }
 
 pub one-short : (k : Sort) (s : List ℕ) (at slot : ℕ) (r : Listed) (o p : List ℕ) → locate (k .format) s at ≡ shortHere → r ≡ record { number = textShort; place = length s; count = 0; reversed = 0 }
-    → length p ≡ wordCount → OneIn k s at slot r o p
+    → length p ≡ length o → OneIn k s at slot r o p
 one-short k s at slot r o p e q z = record {
   is = q ∙ ap (λ l. listedAs k at (ofLocated (length s) l)) (sym e);
   size = z;
@@ -107,7 +107,7 @@ module _ (e : Edition) (boxed : Bool) where
       go true = refl
       go false = refl
 
-  module _ (s : List ℕ) (at slot : ℕ) (o : List ℕ) (t : Piece) (told : t ≡ itemAt e boxed s at) (size : length o ≡ wordCount) where
+  module _ (s : List ℕ) (at slot : ℕ) (o : List ℕ) (t : Piece) (told : t ≡ itemAt e boxed s at) where
     pub single-found : at ≤ length s → (n : Numbers) (next : ℕ) → t ≡ Found n next → (p : List ℕ) → p ≡ sets o slot (n .lo ∷ n .hi ∷ n .turn ∷ [])
         → (m : ℕ) → m ≡ noted n at → (r : Listed) → r ≡ record { number = 0; place = next; count = 1; reversed = m } → OneIn (single e boxed) s at slot r o p
     unfolding noted
@@ -117,14 +117,14 @@ module _ (e : Edition) (boxed : Bool) where
         let g = got 1 f (laws .opens .lawful) s at h a next (k .is) in
         let c : m ≡ firstOf ((at, of a) ∷ []) =
         w ∙ (λ i. choose (ltb (k .means i .hi) (k .means i .lo)) at 0) ∙ ap (λ t. choose t at 0) (item-order (of a) (item-valid e boxed a (g .valid))) ∙ one-first at (of a) in
-        one-in (single e boxed) s at slot r o p a next (k .is) (x ∙ (λ i. record { number = 0; place = next; count = 1; reversed = c i })) (ap length put ∙ length-sets o slot (n .lo ∷ n .hi ∷ n .turn ∷ []) ∙ size)
+        one-in (single e boxed) s at slot r o p a next (k .is) (x ∙ (λ i. record { number = 0; place = next; count = 1; reversed = c i })) (ap length put ∙ length-sets o slot (n .lo ∷ n .hi ∷ n .turn ∷ []))
         (λ few. put ∙ ap (λ n. sets o slot (n .lo ∷ n .hi ∷ n .turn ∷ [])) (k .means))
 
     pub single-wrong : (j : ℕ) → t ≡ Wrong j → (r : Listed) → r ≡ record { number = textWrong; place = j; count = 0; reversed = 0 } → OneIn (single e boxed) s at slot r o o
-    single-wrong j q r x = one-wrong (single e boxed) s at slot r o o j (item-located e boxed s at (Wrong j) (sym q ∙ told)) x size (λ z. refl)
+    single-wrong j q r x = one-wrong (single e boxed) s at slot r o o j (item-located e boxed s at (Wrong j) (sym q ∙ told)) x refl (λ z. refl)
 
     pub single-short : t ≡ Short → (r : Listed) → r ≡ record { number = textShort; place = length s; count = 0; reversed = 0 } → OneIn (single e boxed) s at slot r o o
-    single-short q r x = one-short (single e boxed) s at slot r o o (item-located e boxed s at Short (sym q ∙ told)) x size
+    single-short q r x = one-short (single e boxed) s at slot r o o (item-located e boxed s at Short (sym q ∙ told)) x refl
 
   -- A FURTHER ONE
 
@@ -154,11 +154,11 @@ module _ (e : Edition) (boxed : Bool) where
     pub other-room : (b : ℕ) → t ≡ token.Value b → at + 1 ≤ length s
     other-room b q = delimited-got 1 (byte 111) (byte-delimited 111) s at b (at + 1) (byte-there 111 s at b t told q) .room
 
-    pub other-wrong : length o ≡ wordCount → (j : ℕ) → t ≡ token.Wrong j → (r : Listed) → r ≡ record { number = textWrong; place = j; count = 0; reversed = 0 } → OneIn (other e boxed) s at slot r o o
-    other-wrong size j q r x = one-wrong (other e boxed) s at slot r o o j (after-it ∙ ap (λ l. andThen l λ b i. locate f s i) (wrong-token (byte 111) s at j t told q)) x size (λ z. refl)
+    pub other-wrong : (j : ℕ) → t ≡ token.Wrong j → (r : Listed) → r ≡ record { number = textWrong; place = j; count = 0; reversed = 0 } → OneIn (other e boxed) s at slot r o o
+    other-wrong j q r x = one-wrong (other e boxed) s at slot r o o j (after-it ∙ ap (λ l. andThen l λ b i. locate f s i) (wrong-token (byte 111) s at j t told q)) x refl (λ z. refl)
 
-    pub other-short : length o ≡ wordCount → t ≡ token.Short → (r : Listed) → r ≡ record { number = textShort; place = length s; count = 0; reversed = 0 } → OneIn (other e boxed) s at slot r o o
-    other-short size q r x = one-short (other e boxed) s at slot r o o (after-it ∙ ap (λ l. andThen l λ b i. locate f s i) (short-token (byte 111) s at t told q)) x size
+    pub other-short : t ≡ token.Short → (r : Listed) → r ≡ record { number = textShort; place = length s; count = 0; reversed = 0 } → OneIn (other e boxed) s at slot r o o
+    other-short q r x = one-short (other e boxed) s at slot r o o (after-it ∙ ap (λ l. andThen l λ b i. locate f s i) (short-token (byte 111) s at t told q)) x refl
 
   -- ALL OF THEM
 
@@ -180,14 +180,17 @@ module _ (e : Edition) (boxed : Bool) where
     list-at : locate (alternatives e boxed .format) s at ≡ andThen (locate f s at) goes
     list-at = sequence-at-got f (λ a. rest) s at (got 1 f (laws .opens .lawful) s at inside)
 
-    pub list-failed : (r .number ≡ 0 → ⊥) → OneIn (alternatives e boxed) s at from r o p
-    list-failed z = go (one-failed (single e boxed) s at from r o p v z)
+    pub list-failed : (r .number ≡ 0 → ⊥) → (c : Listed) → Again r c → OneIn (alternatives e boxed) s at from c o p
+    list-failed z c u = go (one-failed (single e boxed) s at from r o p v z)
       where
-        go : Failed (single e boxed) s at from r o p v → OneIn (alternatives e boxed) s at from r o p
+        go : Failed (single e boxed) s at from r o p v → OneIn (alternatives e boxed) s at from c o p
         go (wrong-there x y) =
-            one-wrong (alternatives e boxed) s at from r o p (r .place) (list-at ∙ ap (λ l. andThen l goes) x) (v .is ∙ ap (λ l. listedAs (single e boxed) at (ofLocated (length s) l)) x) (v .size)
+            one-wrong (alternatives e boxed) s at from c o p (r .place) (list-at ∙ ap (λ l. andThen l goes) x)
+            (refused-again r c textWrong (r .place) (v .is ∙ ap (λ l. listedAs (single e boxed) at (ofLocated (length s) l)) x) u) (v .size)
             (λ z. v .still (x ∙ ap wrongAt z))
-        go (short-there x y l) = one-short (alternatives e boxed) s at from r o p (list-at ∙ ap (λ l. andThen l goes) x) (v .is ∙ ap (λ l. listedAs (single e boxed) at (ofLocated (length s) l)) x) (v .size)
+        go (short-there x y l) =
+            one-short (alternatives e boxed) s at from c o p (list-at ∙ ap (λ l. andThen l goes) x)
+            (refused-again r c textShort (length s) (v .is ∙ ap (λ l. listedAs (single e boxed) at (ofLocated (length s) l)) x) u) (v .size)
 
     module _ (z : r .number ≡ 0) where
       abbrev y : Walks.Found (single e boxed) s at from r o p v
@@ -214,10 +217,10 @@ module _ (e : Edition) (boxed : Bool) where
       no-others true x = absurd (let z : _≡_ {A = ℕ} 0 1 = ap (λ t. choose t 0 1) x in omega arith)
       no-others false x = ap (found []) (let g = there .room in omega (arith, length-drop (r .place) s))
 
-      pub list-alone : spelling e .joins ≡ false → OneIn (alternatives e boxed) s at from r o p
-      list-alone x =
-          one-in (alternatives e boxed) s at from r o p (y .says, []) (r .place) (list-on (found [] (r .place)) (no-others (spelling e .joins) x))
-          (v .is ∙ ap (λ l. listedAs (single e boxed) at (ofLocated (length s) l)) (y .is)) (v .size) (λ few. v .holds (y .says) (r .place) (y .is) refl)
+      pub list-alone : spelling e .joins ≡ false → (c : Listed) → c ≡ record { number = 0; place = r .place; count = 1; reversed = r .reversed } → OneIn (alternatives e boxed) s at from c o p
+      list-alone x c u =
+          one-in (alternatives e boxed) s at from c o p (y .says, []) (r .place) (list-on (found [] (r .place)) (no-others (spelling e .joins) x))
+          (u ∙ (λ i. record { number = 0; place = r .place; count = 1; reversed = y .first i })) (v .size) (λ few. v .holds (y .says) (r .place) (y .is) refl)
 
       -- it does
       module _ (x : spelling e .joins ≡ true) (b : List ℕ) (t : Listed) (w : AllIn (other e boxed) 7 s (r .place) (from + 3) t p b) where
@@ -227,16 +230,18 @@ module _ (e : Edition) (boxed : Bool) where
         abbrev more : Located (List (spelling e .Says))
         more = locate (many (after 111 f)) s (r .place)
 
-        pub list-failed-later : (t .number ≡ 0 → ⊥) → OneIn (alternatives e boxed) s at from t o b
-        list-failed-later n = go more refl
+        pub list-failed-later : (t .number ≡ 0 → ⊥) → (c : Listed) → Again t c → OneIn (alternatives e boxed) s at from c o b
+        list-failed-later n c u = go more refl
           where
-            go : (l : Located (List (spelling e .Says))) → more ≡ l → OneIn (alternatives e boxed) s at from t o b
+            go : (l : Located (List (spelling e .Says))) → more ≡ l → OneIn (alternatives e boxed) s at from c o b
             go (found l next) q = absurd (n (ap (λ t. t .number) (w .is ∙ ap (λ l. countedAs (other e boxed) (r .place) (ofLocated (length s) l)) q)))
             go (wrongAt j) q =
-                one-wrong (alternatives e boxed) s at from t o b j (list-on (wrongAt j) (joined-rest ∙ q)) (w .is ∙ ap (λ l. countedAs (other e boxed) (r .place) (ofLocated (length s) l)) q) (w .size)
+                one-wrong (alternatives e boxed) s at from c o b j (list-on (wrongAt j) (joined-rest ∙ q))
+                (refused-again t c textWrong j (w .is ∙ ap (λ l. countedAs (other e boxed) (r .place) (ofLocated (length s) l)) q) u) (w .size ∙ v .size)
                 (λ z. absurd (begun (list-on (wrongAt j) (joined-rest ∙ q) ∙ ap wrongAt z)))
             go shortHere q =
-                one-short (alternatives e boxed) s at from t o b (list-on shortHere (joined-rest ∙ q)) (w .is ∙ ap (λ l. countedAs (other e boxed) (r .place) (ofLocated (length s) l)) q) (w .size)
+                one-short (alternatives e boxed) s at from c o b (list-on shortHere (joined-rest ∙ q))
+                (refused-again t c textShort (length s) (w .is ∙ ap (λ l. countedAs (other e boxed) (r .place) (ofLocated (length s) l)) q) u) (w .size ∙ v .size)
 
         module _ (n : t .number ≡ 0) (first : ℕ) (m : first ≡ orEarlier (r .reversed) (t .reversed)) (c : Listed)
             (q : c ≡ record { number = 0; place = t .place; count = t .count + 1; reversed = first }) where
@@ -264,6 +269,6 @@ module _ (e : Edition) (boxed : Bool) where
                   let count : t .count + 1 ≡ length (of (y .says) ∷ map of l) = omega (arith, ap (λ t. t .count) k, length-map l of) in
                   let reversed : first ≡ firstOf (listSpots f of at (y .says, l)) = m ∙ (λ i. orEarlier (y .first i) (k i .reversed)) ∙ spots-at l h in
                   one-in (alternatives e boxed) s at from c o b (y .says, l) next (list-on (found l next) (joined-rest ∙ z))
-                  (q ∙ (λ i. record { number = 0; place = place i; count = count i; reversed = reversed i })) (w .size) (held l (z ∙ ap (found l) (sym place)))
+                  (q ∙ (λ i. record { number = 0; place = place i; count = count i; reversed = reversed i })) (w .size ∙ v .size) (held l (z ∙ ap (found l) (sym place)))
               go (wrongAt j) z = absurd (let k : t .number ≡ textWrong = ap (λ t. t .number) (w .is ∙ ap (λ l. countedAs (other e boxed) (r .place) (ofLocated (length s) l)) z) in omega arith)
               go shortHere z = absurd (let k : t .number ≡ textShort = ap (λ t. t .number) (w .is ∙ ap (λ l. countedAs (other e boxed) (r .place) (ofLocated (length s) l)) z) in omega arith)

@@ -4,12 +4,12 @@ use mathlib.Core.List.{List, [], _∷_, _++_}
 use mathlib.Core.Path.{_≡_, refl, sym, ap, _∙_}
 use mathlib.Core.Bool.{Bool, true, false, not, _&&_, _||_}
 use mathlib.Core.Option.{Option}
-use lib.Dec.{leb, ltb}
-use lib.ListN.{length, drop, set}
+use lib.Dec.{leb}
+use lib.ListN.{length, drop, set, length-append}
 use lib.Seq.{sets, set-comm, length-sets}
 use native.Mathlib.Omega.{arith}
-use borrow.Author.Tests.{leb-true, ltb-true, ltb-false}
-use Rattle.format.specs.Format.{Format, All, many, optional}
+use borrow.Author.Tests.{le-leb, lt-leb, leb-true}
+use Rattle.format.specs.Format.{Format, All, choose, many, optional}
 use Rattle.format.specs.Located.{Located, found, wrongAt, shortHere, locate, andThen, onFound}
 use Rattle.format.proofs.At.{Got, got, sequence-at-got}
 use Rattle.format.proofs.Begun.{sequence-begun}
@@ -25,16 +25,16 @@ use Rattle.querygrammar.proofs.Query.{prefix-list-laws, bare-list-laws, signbox
 use Rattle.queryitem.specs.declared.coordinate.Place.{Place}
 use Rattle.queryitem.specs.declared.coordinate.Place.the-variants as place
 use Rattle.queryitem.specs.Numbers.{xOf, yOf}
-use Rattle.queryitem.specs.Words.{wordCount, itemsWords}
+use Rattle.queryitem.specs.Words.{spare, itemsWords}
 use Rattle.queryitem.specs.Pieces.{coordinateAt}
 use Rattle.queryitem.proofs.Answers.{place-located}
 use Rattle.queryitem.proofs.Rows.{items-size}
 use Rattle.querypart.specs.declared.alternatives.Listed.{Listed}
 use Rattle.querypart.specs.declared.items.Count.{Count}
 use Rattle.querypart.specs.Spots.{otherSpots}
-use Rattle.querypart.specs.Inner.{orEarlier, Sort, alternatives, item, few, listedAs, OneIn, allFew, countOf, slotOf, ItemsIn}
+use Rattle.querypart.specs.Inner.{orEarlier, Sort, alternatives, item, few, listedAs, OneIn, allWords, allFew, countOf, rowSlot, ItemsIn}
 use Rattle.querypart.proofs.Spots.{Inside, spots-inside}
-use Rattle.querypart.proofs.Walks.{Sorted, few-more, slot-row, slot-from, Failed, wrong-there, short-there, one-found, one-failed, Walked, walked-start, walked-grow, walked-on, walked-none, walked-stop, walked-bad, walked-end}
+use Rattle.querypart.proofs.Walks.{Sorted, few-more, words-more, Failed, wrong-there, short-there, one-found, one-failed, Again, refused-again, Walked, walked-start, walked-grow, walked-on, walked-none, walked-stop, walked-bad, walked-end}
 use Rattle.querypart.proofs.Walks as Walks
 use Rattle.querypart.proofs.Lists.{one-in, one-wrong, one-short, strays-here}
 
@@ -70,21 +70,25 @@ module _ (e : Edition) where
 
   -- of the prefix: the alternatives, and three words before them
   module _ (s : List ℕ) (at row : ℕ) (o p : List ℕ) (r : Listed) (v : OneIn (alternatives e false) s at (row + 3) r o p) where
-    pub prefix-failed : (r .number ≡ 0 → ⊥) → OneIn (item e false) s at row r o p
-    prefix-failed z = go (one-failed (alternatives e false) s at (row + 3) r o p v z)
+    prefix-failed : (r .number ≡ 0 → ⊥) → (c : Listed) → Again r c → OneIn (item e false) s at row c o p
+    prefix-failed z c u = go (one-failed (alternatives e false) s at (row + 3) r o p v z)
       where
-        go : Failed (alternatives e false) s at (row + 3) r o p v → OneIn (item e false) s at row r o p
-        go (wrong-there x y) = one-wrong (item e false) s at row r o p (r .place) x (v .is ∙ ap (λ l. listedAs (alternatives e false) at (ofLocated (length s) l)) x) (v .size) (λ z. v .still (x ∙ ap wrongAt z))
-        go (short-there x y l) = one-short (item e false) s at row r o p x (v .is ∙ ap (λ l. listedAs (alternatives e false) at (ofLocated (length s) l)) x) (v .size)
+        go : Failed (alternatives e false) s at (row + 3) r o p v → OneIn (item e false) s at row c o p
+        go (wrong-there x y) =
+            one-wrong (item e false) s at row c o p (r .place) x (refused-again r c textWrong (r .place) (v .is ∙ ap (λ l. listedAs (alternatives e false) at (ofLocated (length s) l)) x) u) (v .size)
+            (λ z. v .still (x ∙ ap wrongAt z))
+        go (short-there x y l) =
+            one-short (item e false) s at row c o p x (refused-again r c textShort (length s) (v .is ∙ ap (λ l. listedAs (alternatives e false) at (ofLocated (length s) l)) x) u) (v .size)
 
-    pub prefix-row : (r .number ≡ 0) → (n : ℕ) → n ≡ min (r .count) 8 → (q : List ℕ) → q ≡ sets p row (0 ∷ 0 ∷ n ∷ []) → OneIn (item e false) s at row r o q
-    prefix-row z n c q x =
+    prefix-row : r .number ≡ 0 → (n : ℕ) → n ≡ min (r .count) 8 → (q : List ℕ) → q ≡ sets p row (0 ∷ 0 ∷ n ∷ [])
+        → (c : Listed) → c ≡ record { number = 0; place = r .place; count = r .count; reversed = r .reversed } → OneIn (item e false) s at row c o q
+    prefix-row z n m q x c u =
         let y = one-found (alternatives e false) s at (row + 3) r o p v z in
-        one-in (item e false) s at row r o q (y .says) (r .place) (y .is) (v .is ∙ ap (λ l. listedAs (alternatives e false) at (ofLocated (length s) l)) (y .is))
+        one-in (item e false) s at row c o q (y .says) (r .place) (y .is) (u ∙ (λ i. record { number = 0; place = r .place; count = y .count i; reversed = y .first i }))
         (ap length x ∙ length-sets p row (0 ∷ 0 ∷ n ∷ []) ∙ v .size)
         (λ k.
         let l = alternativesOf (spelling e .means) (y .says) in
-        let m : n ≡ length l = c ∙ ap (λ n. min n 8) (y .count) ∙ few-count l k in
+        let m : n ≡ length l = m ∙ ap (λ n. min n 8) (y .count) ∙ few-count l k in
         x ∙ (λ i. sets (v .holds (y .says) (r .place) (y .is) k i) row (0 ∷ 0 ∷ m i ∷ [])) ∙ head-before o row 0 0 (length l) (itemsWords l))
 
   -- of the signbox: with a coordinate or without
@@ -98,15 +102,17 @@ module _ (e : Edition) where
     sought-at : locate (item e true .format) s at ≡ andThen (locate (bareList (spelling e)) s at) goes
     sought-at = sequence-at-got (bareList (spelling e)) (λ l. there) s at (got 1 (bareList (spelling e)) (bare-list-laws (spelling e) (lawful e) .opens .lawful) s at inside)
 
-    pub signbox-failed : (r .number ≡ 0 → ⊥) → OneIn (item e true) s at row r o p
-    signbox-failed z = go (one-failed (alternatives e true) s at (row + 3) r o p v z)
+    signbox-failed : (r .number ≡ 0 → ⊥) → (c : Listed) → Again r c → OneIn (item e true) s at row c o p
+    signbox-failed z c u = go (one-failed (alternatives e true) s at (row + 3) r o p v z)
       where
-        go : Failed (alternatives e true) s at (row + 3) r o p v → OneIn (item e true) s at row r o p
+        go : Failed (alternatives e true) s at (row + 3) r o p v → OneIn (item e true) s at row c o p
         go (wrong-there x y) =
-            one-wrong (item e true) s at row r o p (r .place) (sought-at ∙ ap (λ l. andThen l goes) x) (v .is ∙ ap (λ l. listedAs (alternatives e true) at (ofLocated (length s) l)) x) (v .size)
+            one-wrong (item e true) s at row c o p (r .place) (sought-at ∙ ap (λ l. andThen l goes) x)
+            (refused-again r c textWrong (r .place) (v .is ∙ ap (λ l. listedAs (alternatives e true) at (ofLocated (length s) l)) x) u) (v .size)
             (λ z. v .still (x ∙ ap wrongAt z))
         go (short-there x y l) =
-            one-short (item e true) s at row r o p (sought-at ∙ ap (λ l. andThen l goes) x) (v .is ∙ ap (λ l. listedAs (alternatives e true) at (ofLocated (length s) l)) x) (v .size)
+            one-short (item e true) s at row c o p (sought-at ∙ ap (λ l. andThen l goes) x)
+            (refused-again r c textShort (length s) (v .is ∙ ap (λ l. listedAs (alternatives e true) at (ofLocated (length s) l)) x) u) (v .size)
 
     module _ (z : r .number ≡ 0) where
       abbrev y : Walks.Found (alternatives e true) s at (row + 3) r o p v
@@ -115,7 +121,7 @@ module _ (e : Edition) where
       listed : Got (bareList (spelling e)) s at (y .says) (r .place)
       listed = got 1 (bareList (spelling e)) (bare-list-laws (spelling e) (lawful e) .opens .lawful) s at inside (y .says) (r .place) (y .is)
 
-      pub signbox-room : r .place ≤ length s
+      signbox-room : r .place ≤ length s
       signbox-room = listed .room
 
       begun : locate (item e true .format) s at ≡ wrongAt at → ⊥
@@ -127,15 +133,15 @@ module _ (e : Edition) where
         on : (l : Located (Option (ℕ × ℕ))) → locate there s (r .place) ≡ l → locate (item e true .format) s at ≡ onFound (λ c. (y .says, c)) l
         on l x = sought-at ∙ ap (λ l. andThen l goes) (y .is) ∙ ap (onFound (λ c. (y .says, c))) x
 
-        pub signbox-wrong : (j : ℕ) → t ≡ place.Wrong j → (c : Listed) → c ≡ record { number = textWrong; place = j; count = 0; reversed = 0 } → OneIn (item e true) s at row c o p
+        signbox-wrong : (j : ℕ) → t ≡ place.Wrong j → (c : Listed) → c ≡ record { number = textWrong; place = j; count = 0; reversed = 0 } → OneIn (item e true) s at row c o p
         signbox-wrong j q c x =
             let l = on (wrongAt j) (place-located e s (r .place) (place.Wrong j) (sym q ∙ told)) in
             one-wrong (item e true) s at row c o p j l x (v .size) (λ z. absurd (begun (l ∙ ap wrongAt z)))
 
-        pub signbox-short : t ≡ place.Short → (c : Listed) → c ≡ record { number = textShort; place = length s; count = 0; reversed = 0 } → OneIn (item e true) s at row c o p
+        signbox-short : t ≡ place.Short → (c : Listed) → c ≡ record { number = textShort; place = length s; count = 0; reversed = 0 } → OneIn (item e true) s at row c o p
         signbox-short q c x = one-short (item e true) s at row c o p (on shortHere (place-located e s (r .place) place.Short (sym q ∙ told))) x (v .size)
 
-        pub signbox-row : (a b next : ℕ) → t ≡ place.Found a b next → (n : ℕ) → n ≡ min (r .count) 8 → (q : List ℕ) → q ≡ sets p row (a ∷ b ∷ n ∷ [])
+        signbox-row : (a b next : ℕ) → t ≡ place.Found a b next → (n : ℕ) → n ≡ min (r .count) 8 → (q : List ℕ) → q ≡ sets p row (a ∷ b ∷ n ∷ [])
             → (c : Listed) → c ≡ record { number = 0; place = next; count = r .count; reversed = r .reversed } → OneIn (item e true) s at row c o q
         signbox-row a b next f n m q x c u =
             let k = place-located e s (r .place) (place.Found a b next) (sym f ∙ told) in
@@ -147,18 +153,70 @@ module _ (e : Edition) where
             x ∙ (λ i. sets (v .holds (y .says) (r .place) (y .is) h i) row (k .first i ∷ k .second i ∷ c i ∷ []))
             ∙ head-before o row (xOf (k .says)) (yOf (k .says)) (length l) (itemsWords l))
 
+-- OF THE SIGNBOX OR OF THE PREFIX, one law for each return
+
+module _ (e : Edition) (boxed : Bool) (s : List ℕ) (at row : ℕ) (o p : List ℕ) (r : Listed) (inside : at ≤ length s) (v : OneIn (alternatives e boxed) s at (row + 3) r o p) where
+  pub row-failed : (r .number ≡ 0 → ⊥) → (c : Listed) → Again r c → OneIn (item e boxed) s at row c o p
+  row-failed = go boxed v
+    where
+      go : (boxed : Bool) → OneIn (alternatives e boxed) s at (row + 3) r o p → (r .number ≡ 0 → ⊥) → (c : Listed) → Again r c → OneIn (item e boxed) s at row c o p
+      go true v = signbox-failed e s at row o p r inside v
+      go false v = prefix-failed e s at row o p r v
+
+  module _ (z : r .number ≡ 0) where
+    pub row-bare : boxed ≡ false → (n : ℕ) → n ≡ min (r .count) 8 → (q : List ℕ) → q ≡ sets p row (0 ∷ 0 ∷ n ∷ [])
+        → (c : Listed) → c ≡ record { number = 0; place = r .place; count = r .count; reversed = r .reversed } → OneIn (item e boxed) s at row c o q
+    row-bare b n m q x c u = rw b (prefix-row e s at row o p r (rw (sym b) v) z n m q x c u)
+
+    module _ (b : boxed ≡ true) where
+      abbrev w : OneIn (alternatives e true) s at (row + 3) r o p
+      w = rw (sym b) v
+
+      pub row-room : r .place ≤ length s
+      row-room = signbox-room e s at row o p r inside w z
+
+      module _ (t : Place) (told : t ≡ coordinateAt e s (r .place)) where
+        pub row-wrong : (j : ℕ) → t ≡ place.Wrong j → (c : Listed) → c ≡ record { number = textWrong; place = j; count = 0; reversed = 0 } → OneIn (item e boxed) s at row c o p
+        row-wrong j q c x = rw b (signbox-wrong e s at row o p r inside w z t told j q c x)
+
+        pub row-short : t ≡ place.Short → (c : Listed) → c ≡ record { number = textShort; place = length s; count = 0; reversed = 0 } → OneIn (item e boxed) s at row c o p
+        row-short q c x = rw b (signbox-short e s at row o p r inside w z t told q c x)
+
+        pub row-placed : (a b next : ℕ) → t ≡ place.Found a b next → (n : ℕ) → n ≡ min (r .count) 8 → (q : List ℕ) → q ≡ sets p row (a ∷ b ∷ n ∷ [])
+            → (c : Listed) → c ≡ record { number = 0; place = next; count = r .count; reversed = r .reversed } → OneIn (item e boxed) s at row c o q
+        row-placed x y next f n m q h c u = rw b (signbox-row e s at row o p r inside w z t told x y next f n m q h c u)
+
 -- THE LOOP OVER ITEMS
 
 pub record ItemsInv (e : Edition) (boxed : Bool) (s : List ℕ) (at from n i first row : ℕ) (crowded : Bool) (o p : List ℕ) : Type 0 where
   pub done : List (item e boxed .Says)
-  pub walked : Walked (item e boxed) 32 s at from n i first row done o p
-  pub bound : n ≤ 32 → row ≤ from + 27 * n
-  pub room : row ≤ from + 864
+  pub walked : Walked (item e boxed) (λ l. from + length (allWords (item e boxed) l) + spare ≤ length o) s at from n i first row done o p
+  pub room : row ≤ length o
   pub crowd : crowded ≡ not (allFew (item e boxed) done)
 
 not-and : (s t : Bool) → not s || not t ≡ not (s && t)
 not-and true t = refl
 not-and false t = refl
+
+-- where a row is put there is room for it
+slot-fits : (row room : ℕ) → row + 27 ≤ room → rowSlot row room ≡ row
+unfolding rowSlot
+slot-fits row room h = rw (le-leb (row + 27) room h)
+
+pub slot-room : (row room slot : ℕ) → 31 ≤ room → slot ≡ rowSlot row room → slot + 27 ≤ room
+unfolding rowSlot
+slot-room row room slot h x = go (leb (row + 27) room) refl x
+  where
+    go : (t : Bool) → leb (row + 27) room ≡ t → slot ≡ choose t row 4 → slot + 27 ≤ room
+    go true q x = omega (arith, leb-true (row + 27) room q)
+    go false q x = omega arith
+
+pub slot-row-fits : (row room : ℕ) → row + 27 ≤ room → row ≡ rowSlot row room
+slot-row-fits row room h = sym (slot-fits row room h)
+
+pub slot-over : (row room : ℕ) → room < row + 27 → 4 ≡ rowSlot row room
+unfolding rowSlot
+slot-over row room h = rw (lt-leb (row + 27) room h)
 
 module _ (e : Edition) (boxed : Bool) (s : List ℕ) (at from : ℕ) where
   abbrev k : Sort
@@ -167,9 +225,13 @@ module _ (e : Edition) (boxed : Bool) (s : List ℕ) (at from : ℕ) where
   abbrev g : Sorted k
   g = item-sorted e boxed
 
-  pub items-start : (o : List ℕ) → 1 ≤ at → at ≤ length s → length o ≡ wordCount → ItemsInv e boxed s at from 0 at 0 from false o o
-  items-start o l h z = record { done = []; walked = walked-start k g 32 s at from o l h z; bound = λ n. omega arith; room = omega arith; crowd = refl }
+  abbrev Fits : List ℕ → List (k .Says) → Type 0
+  Fits o l = from + length (allWords k l) + spare ≤ length o
 
+  pub items-start : (o : List ℕ) → 1 ≤ at → at ≤ length s → from ≤ length o → ItemsInv e boxed s at from 0 at 0 from false o o
+  items-start o l h z = record { done = []; walked = walked-start k g (Fits o) s at from o l h; room = z; crowd = refl }
+
+  -- the words of a row: of an item that is kept, and at least six
   row-size : (slot count : ℕ) (a : k .Says) → count ≡ length (k .alternatives a) → few (k .alternatives a) ≡ true → slot + 3 + 3 * min count 8 ≡ slot + length (k .words a)
   row-size slot count a c f = go boxed a c f
     where
@@ -177,60 +239,64 @@ module _ (e : Edition) (boxed : Bool) (s : List ℕ) (at from : ℕ) where
       go true a c f = omega (arith, few-count (item e true .alternatives a) f, items-size (item e true .alternatives a))
       go false a c f = omega (arith, few-count (item e false .alternatives a) f, items-size (item e false .alternatives a))
 
-  module _ (n i first row : ℕ) (crowded : Bool) (o p : List ℕ) (v : ItemsInv e boxed s at from n i first row crowded o p) where
-    -- there is room for the next
-    pub items-slot : (slot : ℕ) → slot ≡ slotOf n 32 row from → slot ≤ from + 837
-    items-slot slot x = go (ltb n 32) refl
-      where
-        go : (t : Bool) → ltb n 32 ≡ t → slot ≤ from + 837
-        go true q = let h : n < 32 = ltb-true n 32 q in omega (arith, x ∙ slot-row n 32 row from h, v .bound (omega arith))
-        go false q = let h : 32 ≤ n = ltb-false n 32 q in omega (arith, x ∙ slot-from n 32 row from h)
+  row-least : (a : k .Says) → 6 ≤ length (k .words a)
+  row-least = go boxed
+    where
+      go : (boxed : Bool) (a : item e boxed .Says) → 6 ≤ length (item e boxed .words a)
+      go true a = omega arith
+      go false a = omega arith
 
+  module _ (n i first row : ℕ) (crowded : Bool) (o p : List ℕ) (v : ItemsInv e boxed s at from n i first row crowded o p) where
     items-found : locate (many (k .format)) s at ≡ found (v .done) i → (c : Count) → c ≡ record { number = 0; place = i; count = n; reversed = first; crowded = crowded; row = row } → ItemsIn e boxed s at from c o p
-    items-found x c y = rw y (record {
-      is =
-          (λ j. record { number = 0; place = i; count = v .walked .count j; reversed = v .walked .noticed j; crowded = v .crowd j; row = row })
-          ∙ ap (λ l. countOf k row at (ofLocated (length s) l)) (sym x);
-      size = v .walked .size;
-      room = v .room;
-      holds = λ l next q few many.
-          let same : v .done ≡ l = same-found (sym x ∙ q) in
-          rw same at (v .walked .held (let c = v .walked .count in omega (arith, ap length same)) (ap (allFew k) same ∙ many));
-    })
+    items-found x c y =
+        rw y
+        (record {
+          is =
+              (λ j. record { number = 0; place = i; count = v .walked .count j; reversed = v .walked .noticed j; crowded = v .crowd j; row = row })
+              ∙ ap (λ l. countOf k row at (ofLocated (length s) l)) (sym x);
+          size = v .walked .size;
+          room = v .room;
+          holds = λ l next q fits many.
+              let same : v .done ≡ l = same-found (sym x ∙ q) in
+              rw same at (v .walked .held (rw same fits) (ap (allFew k) same ∙ many));
+        })
       where
         same-found : {A : Type 0} {a b : A} {i j : ℕ} → found a i ≡ found b j → a ≡ b
         same-found e = cc
 
     pub items-end : length s ≤ i → (c : Count) → c ≡ record { number = 0; place = i; count = n; reversed = first; crowded = crowded; row = row } → ItemsIn e boxed s at from c o p
-    items-end h = items-found (walked-end k g 32 s at from n i first row (v .done) o p (v .walked) h)
+    items-end h = items-found (walked-end k g (Fits o) s at from n i first row (v .done) o p (v .walked) h)
 
     module _ (slot : ℕ) (r : Listed) (q : List ℕ) (w : OneIn k s i slot r p q) where
       pub items-grow : r .number ≡ 0 → (i < r .place) × (r .place ≤ length s)
-      items-grow = walked-grow k g 32 s at from n i first row (v .done) o p (v .walked) slot r q w
+      items-grow = walked-grow k g (Fits o) s at from n i first row (v .done) o p (v .walked) slot r q w
 
-      pub items-on : (z : r .number ≡ 0) → slot ≡ slotOf n 32 row from → (now : ℕ) → now ≡ orEarlier first (r .reversed) → (full : Bool) → full ≡ crowded || not (leb (r .count) 8)
+      pub items-on : (z : r .number ≡ 0) → slot ≡ rowSlot row (length p) → slot + 27 ≤ length p → (now : ℕ) → now ≡ orEarlier first (r .reversed) → (full : Bool) → full ≡ crowded || not (leb (r .count) 8)
           → (m : ℕ) → m ≡ min (r .count) 8 → ItemsInv e boxed s at from (n + 1) (r .place) now (slot + 3 + 3 * m) full o q
-      items-on z x now y full c m u =
+      items-on z x h now y full c m u =
           let f = one-found k s i slot r p q w z in
           let d = v .done in
           let most : m ≤ 8 = omega arith in
+          let size = v .walked .size in
           record {
             done = d ++ (f .says ∷ []);
             walked =
-                walked-on k g 32 s at from n i first row d o p (v .walked) slot r q w z x now y (slot + 3 + 3 * m)
+                walked-on k g (Fits o) s at from n i first row d o p (v .walked) slot r q w z
+                (λ a fits.
+                let l : from + length (allWords k d) + 27 ≤ length o = omega (arith, length-append (allWords k d) (k .words a), ap length (words-more k d a), row-least a, fits) in
+                (omega (arith, l), λ j. x ∙ slot-fits row (length p) (omega (arith, l, j, size)))) now y (slot + 3 + 3 * m)
                 (λ a h j. ap (λ m. slot + 3 + 3 * m) u ∙ row-size slot (r .count) a h j);
-            bound = λ h. omega (arith, x ∙ slot-row n 32 row from (omega arith), v .bound (omega arith), most);
-            room = omega (arith, items-slot slot x, most);
+            room = omega arith;
             crowd =
                 c ∙ (λ i. v .crowd i || not (leb (f .count i) 8)) ∙ not-and (allFew k d) (few (k .alternatives (f .says))) ∙ ap not (sym (few-more k d (f .says)));
           }
 
       pub items-stop : i < length s → (r .number ≡ 0 → ⊥) → r .place ≡ i → (c : Count) → c ≡ record { number = 0; place = i; count = n; reversed = first; crowded = crowded; row = row } → ItemsIn e boxed s at from c o q
       items-stop h z x c y =
-          rw (w .still (walked-none k g 32 s at from n i first row (v .done) o p (v .walked) slot r q w h z x))
-          (items-found (walked-stop k g 32 s at from n i first row (v .done) o p (v .walked) slot r q w h z x) c y)
+          rw (w .still (walked-none k g (Fits o) s at from n i first row (v .done) o p (v .walked) slot r q w h z x))
+          (items-found (walked-stop k g (Fits o) s at from n i first row (v .done) o p (v .walked) slot r q w h z x) c y)
 
-      pub items-bad : i < length s → (r .number ≡ 0 → ⊥) → (r .place ≡ i → ⊥) → (c : Count) → c ≡ record { number = r .number; place = r .place; count = 0; reversed = 0; crowded = false; row = from } → ItemsIn e boxed s at from c o q
-      items-bad h z x c y =
-          let l = walked-bad k g 32 s at from n i first row (v .done) o p (v .walked) slot r q w h z x in
-          rw y (record { is = ap (countOf k from at) (sym l); size = w .size; room = omega arith; holds = λ d next u. refusal-done (r .number) (r .place) (sym l ∙ ap (ofLocated (length s)) u) })
+      pub items-bad : i < length s → (r .number ≡ 0 → ⊥) → (r .place ≡ i → ⊥) → from ≤ length o → (c : Count) → c ≡ record { number = r .number; place = r .place; count = 0; reversed = 0; crowded = false; row = from } → ItemsIn e boxed s at from c o q
+      items-bad h z x b c y =
+          let l = walked-bad k g (Fits o) s at from n i first row (v .done) o p (v .walked) slot r q w h z x in
+          rw y (record { is = ap (countOf k from at) (sym l); size = w .size ∙ v .walked .size; room = b; holds = λ d next u. refusal-done (r .number) (r .place) (sym l ∙ ap (ofLocated (length s)) u) })

@@ -15,7 +15,6 @@ use Rattle.format.proofs.Open.{Open}
 use Rattle.token.specs.Refusal.{textWrong, textShort}
 use Rattle.token.specs.Result.{refusal, done, ofLocated}
 use Rattle.token.proofs.PaddedLists.{sets-append}
-use Rattle.queryitem.specs.Words.{wordCount}
 use Rattle.querypart.specs.declared.alternatives.Listed.{Listed}
 use Rattle.querypart.specs.Spots.{allSpots}
 use Rattle.querypart.specs.Inner.{orEarlier, firstOf, Sort, few, listedAs, OneIn, allWords, allFew, slotOf}
@@ -43,7 +42,7 @@ every-more test (b ∷ l) a = go (test b) (every-more test l a)
 pub few-more : (k : Sort) (l : List (k .Says)) (a : k .Says) → allFew k (l ++ (a ∷ [])) ≡ allFew k l && few (k .alternatives a)
 few-more k l a = every-more (λ a. few (k .alternatives a)) l a
 
-words-more : (k : Sort) (l : List (k .Says)) (a : k .Says) → allWords k (l ++ (a ∷ [])) ≡ allWords k l ++ k .words a
+pub words-more : (k : Sort) (l : List (k .Says)) (a : k .Says) → allWords k (l ++ (a ∷ [])) ≡ allWords k l ++ k .words a
 words-more k [] a = append-nil (k .words a)
 words-more k (b ∷ l) a = ap (λ w. k .words b ++ w) (words-more k l a) ∙ sym (append-assoc (k .words b) (allWords k l) (k .words a))
 
@@ -85,36 +84,43 @@ module _ (k : Sort) (s : List ℕ) (i slot : ℕ) (r : Listed) (o p : List ℕ) 
   pub one-failed : (r .number ≡ 0 → ⊥) → Failed
   one-failed = failed-go (locate (k .format) s i) refl (v .is)
 
+-- a refusal said anew
+abbrev pub Again : Listed → Listed → Type 0
+Again r c = c ≡ record { number = r .number; place = r .place; count = 0; reversed = 0 }
+
+pub refused-again : (r c : Listed) (n j : ℕ) → r ≡ record { number = n; place = j; count = 0; reversed = 0 } → Again r c → c ≡ record { number = n; place = j; count = 0; reversed = 0 }
+refused-again r c n j q x = x ∙ (λ i. record { number = q i .number; place = q i .place; count = 0; reversed = 0 })
+
 -- THE LOOP
 
--- these were read up to i, n of them, and put up to the offset row
-pub record Walked (k : Sort) (most : ℕ) (s : List ℕ) (at from n i first row : ℕ) (done : List (k .Says)) (o p : List ℕ) : Type 0 where
+-- these were read up to i, n of them, and put up to the offset row while they fit
+pub record Walked (k : Sort) (Fits : List (k .Says) → Type 0) (s : List ℕ) (at from n i first row : ℕ) (done : List (k .Says)) (o p : List ℕ) : Type 0 where
   pub least : 1 ≤ at
   pub walk : Walk (k .format) s at i done
   pub count : n ≡ length done
   pub below : n + 1 ≤ i
   pub offset : i ≡ at + length (writeAll (k .format .write) done)
   pub noticed : first ≡ firstOf (allSpots (k .format) (k .spots) at done)
-  pub size : length p ≡ wordCount
-  pub held : n ≤ most → allFew k done ≡ true → (p ≡ sets o from (allWords k done)) × (row ≡ from + length (allWords k done))
+  pub size : length p ≡ length o
+  pub held : Fits done → allFew k done ≡ true → (p ≡ sets o from (allWords k done)) × (row ≡ from + length (allWords k done))
 
-module _ (k : Sort) (g : Sorted k) (most : ℕ) (s : List ℕ) (at from : ℕ) where
+module _ (k : Sort) (g : Sorted k) (Fits : List (k .Says) → Type 0) (s : List ℕ) (at from : ℕ) where
   abbrev f : Format (k .Says)
   f = k .format
 
-  pub walked-start : (o : List ℕ) → 1 ≤ at → at ≤ length s → length o ≡ wordCount → Walked k most s at from 0 at 0 from [] o o
-  walked-start o l h z = record {
+  pub walked-start : (o : List ℕ) → 1 ≤ at → at ≤ length s → Walked k Fits s at from 0 at 0 from [] o o
+  walked-start o l h = record {
     least = l;
     walk = walk-start f s at h;
     count = refl;
     below = omega arith;
     offset = omega arith;
     noticed = refl;
-    size = z;
+    size = refl;
     held = λ n c. (refl, omega arith);
   }
 
-  module _ (n i first row : ℕ) (d : List (k .Says)) (o p : List ℕ) (v : Walked k most s at from n i first row d o p) (slot : ℕ) (r : Listed) (q : List ℕ) (w : OneIn k s i slot r p q) where
+  module _ (n i first row : ℕ) (d : List (k .Says)) (o p : List ℕ) (v : Walked k Fits s at from n i first row d o p) (slot : ℕ) (r : Listed) (q : List ℕ) (w : OneIn k s i slot r p q) where
     module _ (z : r .number ≡ 0) where
       abbrev y : Found k s i slot r p q w
       y = one-found k s i slot r p q w z
@@ -125,9 +131,10 @@ module _ (k : Sort) (g : Sorted k) (most : ℕ) (s : List ℕ) (at from : ℕ) w
       pub walked-grow : (i < r .place) × (r .place ≤ length s)
       walked-grow = let t = there in (omega (arith, t .size, g .opens .solid (y .says) (t .valid)), t .room)
 
-      pub walked-on : slot ≡ slotOf n most row from → (now : ℕ) → now ≡ orEarlier first (r .reversed)
+      -- what fits with one more fitted without it, and the one more was put next
+      pub walked-on : ((a : k .Says) → Fits (d ++ (a ∷ [])) → Fits d × (row ≡ from + length (allWords k d) → slot ≡ row)) → (now : ℕ) → now ≡ orEarlier first (r .reversed)
           → (next : ℕ) → ((a : k .Says) → r .count ≡ length (k .alternatives a) → few (k .alternatives a) ≡ true → next ≡ slot + length (k .words a))
-          → Walked k most s at from (n + 1) (r .place) now next (d ++ (y .says ∷ [])) o q
+          → Walked k Fits s at from (n + 1) (r .place) now next (d ++ (y .says ∷ [])) o q
       walked-on here now e next after =
           let a = y .says in
           let c = v .count in
@@ -142,11 +149,12 @@ module _ (k : Sort) (g : Sorted k) (most : ℕ) (s : List ℕ) (at from : ℕ) w
                 e ∙ (λ j. orEarlier (v .noticed j) ((y .first ∙ ap (λ i. firstOf (k .spots i a)) (v .offset)) j))
                 ∙ sym (first-both (allSpots f (k .spots) at d) (k .spots (at + length (writeAll (f .write) d)) a) (spots-inside f (k .spots) (g .inside) at d (v .least)))
                 ∙ ap firstOf (sym (spots-more f (k .spots) at d a));
-            size = w .size;
+            size = w .size ∙ v .size;
             held = λ m x.
                 let b = and-eq-true-iff (allFew k d) (few (k .alternatives a)) .0 (sym (few-more k d a) ∙ x) in
-                let h = v .held (omega arith) (b .0) in
-                let j : slot ≡ from + length (allWords k d) = here ∙ slot-row n most row from (omega arith) ∙ h .1 in
+                let u = here a m in
+                let h = v .held (u .0) (b .0) in
+                let j : slot ≡ from + length (allWords k d) = u .1 (h .1) ∙ h .1 in
                 let l = after a (y .count) (b .1) in (
                   w .holds a (r .place) (y .is) (b .1)
                       ∙ (λ i. sets (h .0 i) (j i) (k .words a)) ∙ sets-append (allWords k d) (k .words a) o from ∙ ap (sets o from) (sym (words-more k d a)),
@@ -172,5 +180,5 @@ module _ (k : Sort) (g : Sorted k) (most : ℕ) (s : List ℕ) (at from : ℕ) w
         go (wrong-there x y) = ap (ofLocated (length s)) (open-bad 1 f (g .opens) s at i d (v .walk) (r .place) x e) ∙ ap (λ n. refusal n (r .place)) (sym y)
         go (short-there x y l) = ap (ofLocated (length s)) (open-cut 1 f (g .opens) s at i d (v .walk) h x) ∙ (λ j. refusal (sym y j) (sym l j))
 
-  pub walked-end : (n i first row : ℕ) (d : List (k .Says)) (o p : List ℕ) → Walked k most s at from n i first row d o p → length s ≤ i → locate (many f) s at ≡ found d i
+  pub walked-end : (n i first row : ℕ) (d : List (k .Says)) (o p : List ℕ) → Walked k Fits s at from n i first row d o p → length s ≤ i → locate (many f) s at ≡ found d i
   walked-end n i first row d o p v h = open-end 1 f (g .opens) s at i d (v .walk) h

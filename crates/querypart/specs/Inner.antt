@@ -19,7 +19,7 @@ use Rattle.querygrammar.specs.declared.Edition.{Edition}
 use Rattle.querygrammar.specs.Spelling.{Item, spelling}
 use Rattle.querygrammar.specs.Query.{list, ListText, SoughtText, prefixList, signboxList, alternativesOf, soughtOf, figures, variance, varianceOf}
 use Rattle.queryitem.specs.declared.reading.Numbers.{Numbers}
-use Rattle.queryitem.specs.Words.{wordCount, itemWords, itemsWords, rowWords, bare}
+use Rattle.queryitem.specs.Words.{spare, itemWords, itemsWords, rowWords, bare}
 use Rattle.queryitem.specs.Pieces.{itemOf}
 use Rattle.querypart.specs.declared.alternatives.Listed.{Listed}
 use Rattle.querypart.specs.declared.items.Count.{Count}
@@ -130,7 +130,7 @@ listedAs k at (done p) = record { number = 0; place = p .1; count = length (k .a
 -- The words o became p: if it has no more than eight alternatives, its words were put from an offset on; if none is there, nothing was.
 pub record OneIn (k : Sort) (s : List ℕ) (at slot : ℕ) (r : Listed) (o p : List ℕ) : Type 0 where
   pub is : r ≡ listedAs k at (ofLocated (length s) (locate (k .format) s at))
-  pub size : length p ≡ wordCount
+  pub size : length p ≡ length o
   pub still : locate (k .format) s at ≡ wrongAt at → p ≡ o
   pub holds : (a : k .Says) (next : ℕ) → locate (k .format) s at ≡ found a next → few (k .alternatives a) ≡ true → p ≡ sets o slot (k .words a)
 
@@ -151,9 +151,12 @@ countedAs k at (done p) = record { number = 0; place = p .1; count = length (p .
 unfoldable pub slotOf : ℕ → ℕ → ℕ → ℕ → ℕ
 slotOf n most row from = choose (ltb n most) row from
 
+unfoldable pub rowSlot : ℕ → ℕ → ℕ
+rowSlot row room = choose (leb (row + 27) room) row 4
+
 pub record AllIn (k : Sort) (most : ℕ) (s : List ℕ) (at from : ℕ) (r : Listed) (o p : List ℕ) : Type 0 where
   pub is : r ≡ countedAs k at (ofLocated (length s) (locate (many (k .format)) s at))
-  pub size : length p ≡ wordCount
+  pub size : length p ≡ length o
   pub below : r .count ≤ length s
   pub holds : (l : List (k .Says)) (next : ℕ) → locate (many (k .format)) s at ≡ found l next → length l ≤ most → allFew k l ≡ true
       → p ≡ sets o from (allWords k l)
@@ -173,7 +176,7 @@ countOf k row at (done p) = record {
 
 pub record ItemsIn (e : Edition) (boxed : Bool) (s : List ℕ) (at from : ℕ) (r : Count) (o p : List ℕ) : Type 0 where
   pub is : r ≡ countOf (item e boxed) (r .row) at (ofLocated (length s) (locate (many (item e boxed .format)) s at))
-  pub size : length p ≡ wordCount
-  pub room : r .row ≤ from + 864
-  pub holds : (l : List (item e boxed .Says)) (next : ℕ) → locate (many (item e boxed .format)) s at ≡ found l next → length l ≤ 32 → allFew (item e boxed) l ≡ true
+  pub size : length p ≡ length o
+  pub room : r .row ≤ length o
+  pub holds : (l : List (item e boxed .Says)) (next : ℕ) → locate (many (item e boxed .format)) s at ≡ found l next → from + length (allWords (item e boxed) l) + spare ≤ length o → allFew (item e boxed) l ≡ true
       → (p ≡ sets o from (allWords (item e boxed) l)) × (r .row ≡ from + length (allWords (item e boxed) l))

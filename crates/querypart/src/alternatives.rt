@@ -5,13 +5,11 @@ ghost use lib.ListN.{length};
 ghost use lib.Seq.{sets};
 ghost use mathlib.Core.List.{[], _∷_};
 ghost use Rattle.querygrammar.specs.Spelling.{spelling};
-ghost use Rattle.queryitem.specs.Words.{wordCount};
 ghost use Rattle.querypart.specs.Inner.{orEarlier, noted, slotOf, single, other, alternatives, OneIn, AllIn};
 use querygrammar::Edition;
 use queryitem::reading::Numbers;
 use queryitem::reading::Piece;
 use queryitem::words::MOST_ALTERNATIVES;
-use queryitem::words::WORDS;
 use token::reading::Token;
 use token::refusal::DONE;
 use token::refusal::TEXT_SHORT;
@@ -78,8 +76,8 @@ pub fn slot(n: usize, most: usize, row: usize, from: usize) -> usize
 }
 
 // Three words, from an offset on.
-pub fn put_three(words: &mut [u16; WORDS], at: usize, first: u16, second: u16, third: u16)
-    requires { ⌜ (length (now words) ≡ wordCount) × (at + 3 ≤ wordCount) ⌝ }
+pub fn put_three(words: &mut [u16], at: usize, first: u16, second: u16, third: u16)
+    requires { ⌜ at + 3 ≤ length (now words) ⌝ }
     ensures { λ r. ⌜ now (words .exit) ≡ sets (now (words .entry)) at (first ∷ second ∷ third ∷ []) ⌝ }
 {
     words[at] = first;
@@ -93,10 +91,10 @@ fn one_into(
     at: usize,
     edition: Edition,
     boxed: bool,
-    words: &mut [u16; WORDS],
+    words: &mut [u16],
     slot: usize,
 ) -> Listed
-    requires { ⌜ (at ≤ length (now s)) × (length (now words) ≡ wordCount) × (slot + 3 ≤ wordCount) ⌝ }
+    requires { ⌜ (at ≤ length (now s)) × (slot + 3 ≤ length (now words)) ⌝ }
     ensures { λ r. ⌜ OneIn (single edition boxed) (now (s .entry)) at slot r (now (words .entry)) (now (words .exit)) ⌝ }
 {
     match queryitem::item::item_at(s, at, edition, boxed) {
@@ -115,10 +113,10 @@ fn other_into(
     at: usize,
     edition: Edition,
     boxed: bool,
-    words: &mut [u16; WORDS],
+    words: &mut [u16],
     slot: usize,
 ) -> Listed
-    requires { ⌜ (at ≤ length (now s)) × (length (now words) ≡ wordCount) × (slot + 3 ≤ wordCount) ⌝ }
+    requires { ⌜ (at ≤ length (now s)) × (slot + 3 ≤ length (now words)) ⌝ }
     ensures { λ r. ⌜ OneIn (other edition boxed) (now (s .entry)) at slot r (now (words .entry)) (now (words .exit)) ⌝ }
 {
     match token::reading::byte_at(s, at, b'o') {
@@ -134,10 +132,10 @@ fn others_into(
     at: usize,
     edition: Edition,
     boxed: bool,
-    words: &mut [u16; WORDS],
+    words: &mut [u16],
     from: usize,
 ) -> Listed
-    requires { ⌜ (1 ≤ at) × (at ≤ length (now s)) × (length (now words) ≡ wordCount) × (from + 21 ≤ wordCount) ⌝ }
+    requires { ⌜ (1 ≤ at) × (at ≤ length (now s)) × (from + 21 ≤ length (now words)) ⌝ }
     ensures { λ r. ⌜ AllIn (other edition boxed) 7 (now (s .entry)) at from r (now (words .entry)) (now (words .exit)) ⌝ }
 {
     let mut n: usize = 0;
@@ -179,25 +177,31 @@ pub fn alternatives_into(
     at: usize,
     edition: Edition,
     boxed: bool,
-    words: &mut [u16; WORDS],
+    words: &mut [u16],
     from: usize,
 ) -> Listed
-    requires { ⌜ (1 ≤ at) × (at ≤ length (now s)) × (length (now words) ≡ wordCount) × (from + 24 ≤ wordCount) ⌝ }
+    requires { ⌜ (1 ≤ at) × (at ≤ length (now s)) × (from + 24 ≤ length (now words)) ⌝ }
     ensures { λ r. ⌜ OneIn (alternatives edition boxed) (now (s .entry)) at from r (now (words .entry)) (now (words .exit)) ⌝ }
 {
     let first = one_into(s, at, edition, boxed, words, from);
     let number = first.number;
+    let place = first.place;
+    let reversed = first.reversed;
     if number != DONE {
-        return first;
+        return no_list(number, place);
     }
     if !joins(edition) {
-        return first;
+        return list_of(place, 1, reversed);
     }
-    let others = others_into(s, first.place, edition, boxed, words, from + 3);
+    let others = others_into(s, place, edition, boxed, words, from + 3);
     let number = others.number;
+    let place = others.place;
     if number != DONE {
-        return others;
+        return no_list(number, place);
     }
-    let reversed = or_earlier(first.reversed, others.reversed);
-    list_of(others.place, others.count + 1, reversed)
+    list_of(
+        place,
+        others.count + 1,
+        or_earlier(reversed, others.reversed),
+    )
 }

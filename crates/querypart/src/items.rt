@@ -1,23 +1,21 @@
-// Items of the signbox or of the prefix, into the words of a query: every item is read and counted, and the first 32 are kept.
+// Items of the signbox or of the prefix, into the words of a query: every item is read and counted, and kept while there is room.
 ghost use mathlib.Core.Path.{_≡_};
-ghost use Prim.Native.Nat.{_+_, _≤_, min};
+ghost use Prim.Native.Nat.{_+_, _^_, _≤_, min};
 ghost use lib.ListN.{length};
 ghost use mathlib.Core.Bool.{true, false, not, _||_};
 ghost use lib.Dec.{leb};
-ghost use Rattle.queryitem.specs.Words.{wordCount};
-ghost use Rattle.querypart.specs.Inner.{item, OneIn, ItemsIn};
+ghost use Rattle.querypart.specs.Inner.{rowSlot, item, OneIn, ItemsIn};
 use super::alternatives::Listed;
 use super::alternatives::alternatives_into;
 use super::alternatives::list_of;
 use super::alternatives::no_list;
 use super::alternatives::or_earlier;
 use super::alternatives::put_three;
-use super::alternatives::slot;
 use querygrammar::Edition;
 use queryitem::coordinate::Place;
+use queryitem::words::FIRST_ROW;
 use queryitem::words::MOST_ALTERNATIVES;
-use queryitem::words::MOST_ITEMS;
-use queryitem::words::WORDS;
+use queryitem::words::ROW;
 use token::refusal::DONE;
 use token::refusal::TEXT_SHORT;
 use token::refusal::TEXT_WRONG;
@@ -79,81 +77,61 @@ fn or_crowded(before: bool, count: usize) -> bool
     MOST_ALTERNATIVES < count
 }
 
-// An item of the prefix with its alternatives, as the row at an offset.
-fn prefix_row_into(
-    s: &[u8],
-    at: usize,
-    edition: Edition,
-    words: &mut [u16; WORDS],
-    row: usize,
-) -> Listed
-    requires { ⌜ (1 ≤ at) × (at ≤ length (now s)) × (length (now words) ≡ wordCount) × (row + 27 ≤ wordCount) ⌝ }
-    ensures { λ r. ⌜ OneIn (item edition false) (now (s .entry)) at row r (now (words .entry)) (now (words .exit)) ⌝ }
+// Where the next row is put: after those before it or, where there is no room, over the first.
+fn row_slot(row: usize, room: usize) -> usize
+    requires { ⌜ (row ≤ room) × (room + 64 ≤ 2 ^ 64) ⌝ }
+    ensures { λ r. ⌜ r ≡ rowSlot row room ⌝ }
 {
-    let r = alternatives_into(s, at, edition, false, words, row + 3);
-    let number = r.number;
-    if number != DONE {
-        return r;
+    if row + ROW <= room {
+        return row;
     }
-    put_three(words, row, 0, 0, kept(r.count) as u16);
-    r
+    FIRST_ROW
 }
 
-// An item of the signbox with its alternatives and their coordinate, as the row at an offset.
-fn signbox_row_into(
+// An item with its alternatives and, in the signbox, their coordinate, as the row at an offset.
+fn row_into(
     s: &[u8],
     at: usize,
     edition: Edition,
-    words: &mut [u16; WORDS],
+    boxed: bool,
+    words: &mut [u16],
     row: usize,
 ) -> Listed
-    requires { ⌜ (1 ≤ at) × (at ≤ length (now s)) × (length (now words) ≡ wordCount) × (row + 27 ≤ wordCount) ⌝ }
-    ensures { λ r. ⌜ OneIn (item edition true) (now (s .entry)) at row r (now (words .entry)) (now (words .exit)) ⌝ }
+    requires { ⌜ (1 ≤ at) × (at ≤ length (now s)) × (row + 27 ≤ length (now words)) ⌝ }
+    ensures { λ r. ⌜ OneIn (item edition boxed) (now (s .entry)) at row r (now (words .entry)) (now (words .exit)) ⌝ }
 {
-    let r = alternatives_into(s, at, edition, true, words, row + 3);
+    let r = alternatives_into(s, at, edition, boxed, words, row + 3);
     let number = r.number;
+    let place = r.place;
     let count = r.count;
+    let reversed = r.reversed;
     if number != DONE {
-        return r;
+        return no_list(number, place);
     }
-    match queryitem::coordinate::coordinate_at(s, r.place, edition) {
+    if !boxed {
+        put_three(words, row, 0, 0, kept(count) as u16);
+        return list_of(place, count, reversed);
+    }
+    match queryitem::coordinate::coordinate_at(s, place, edition) {
         Place::Found(x, y, next) => {
             put_three(words, row, x, y, kept(count) as u16);
-            list_of(next, count, r.reversed)
+            list_of(next, count, reversed)
         }
         Place::Wrong(p) => no_list(TEXT_WRONG, p),
         Place::Short => no_list(TEXT_SHORT, s.len()),
     }
 }
 
-// An item of the signbox, or one of the prefix, as the row at an offset.
-fn row_into(
-    s: &[u8],
-    at: usize,
-    edition: Edition,
-    boxed: bool,
-    words: &mut [u16; WORDS],
-    row: usize,
-) -> Listed
-    requires { ⌜ (1 ≤ at) × (at ≤ length (now s)) × (length (now words) ≡ wordCount) × (row + 27 ≤ wordCount) ⌝ }
-    ensures { λ r. ⌜ OneIn (item edition boxed) (now (s .entry)) at row r (now (words .entry)) (now (words .exit)) ⌝ }
-{
-    if boxed {
-        return signbox_row_into(s, at, edition, words, row);
-    }
-    prefix_row_into(s, at, edition, words, row)
-}
-
-// Items as far as they go: all are counted, and the rows of the first MOST_ITEMS kept from an offset of the words on.
+// Items as far as they go: all are counted, and their rows kept from an offset of the words on, as far as there is room.
 pub fn items_into(
     s: &[u8],
     at: usize,
     edition: Edition,
     boxed: bool,
-    words: &mut [u16; WORDS],
+    words: &mut [u16],
     from: usize,
 ) -> Count
-    requires { ⌜ (1 ≤ at) × (at ≤ length (now s)) × (length (now words) ≡ wordCount) × (from + 864 ≤ wordCount) ⌝ }
+    requires { ⌜ (1 ≤ at) × (at ≤ length (now s)) × (31 ≤ length (now words)) × (from ≤ length (now words)) ⌝ }
     ensures { λ r. ⌜ ItemsIn edition boxed (now (s .entry)) at from r (now (words .entry)) (now (words .exit)) ⌝ }
 {
     let mut n: usize = 0;
@@ -162,7 +140,7 @@ pub fn items_into(
     let mut crowded = false;
     let mut row = from;
     while i < s.len() {
-        let here = slot(n, MOST_ITEMS, row, from);
+        let here = row_slot(row, words.len());
         let r = row_into(s, i, edition, boxed, words, here);
         let number = r.number;
         let place = r.place;

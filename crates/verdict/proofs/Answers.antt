@@ -16,10 +16,10 @@ use Rattle.writer.specs.Arrays.{upto, at, symbolAt}
 use Rattle.sign.proofs.Transcribing.{lies}
 use Rattle.querygrammar.specs.declared.Edition.{Edition}
 use Rattle.querygrammar.specs.Query.{Query}
-use Rattle.queryitem.specs.Words.{wordCount, wordsOf}
+use Rattle.queryitem.specs.Words.{wordsOf}
 use Rattle.query.specs.declared.words.Head.{Head}
 use Rattle.query.specs.Reading.{queryOf}
-use Rattle.query.specs.Inner.{ReadInto}
+use Rattle.query.specs.Inner.{Fits, ReadInto}
 use Rattle.query.proofs.Answers.{Known, not-read, was-read, known}
 use Rattle.query.proofs.Accepted.{query-accepted}
 use Rattle.matching.specs.declared.Verdict.{Verdict}
@@ -74,33 +74,33 @@ pub record Held (e : Edition) (s words : List ℕ) : Type 0 where
   pub laid : Laid words
   pub same : (sign : Result Meaning) → verdictOnWords words sign ≡ verdictOn query sign
 
-module _ (e : Edition) (s : List ℕ) (h : Head) (words : List ℕ) (v : ReadInto e s h words) where
-  verdict-same : (q : Query) → queryOf e s ≡ done q → (sign : Result Meaning) → verdictOnWords (padded wordCount (wordsOf q)) sign ≡ verdictOn q sign
+module _ (e : Edition) (s : List ℕ) (n : ℕ) (fits : Fits e s n) (h : Head) (words : List ℕ) (v : ReadInto e s n h words) where
+  verdict-same : (q : Query) → queryOf e s ≡ done q → (sign : Result Meaning) → verdictOnWords (padded n (wordsOf q)) sign ≡ verdictOn q sign
   unfolding verdictOnWords verdictOn
-  verdict-same q x (refusal n p) = λ i. refusedAs n p
-  verdict-same q x (done m) = let a = query-accepted e s q x in ap answered (words-laws .verdict q (a .prefix-most) (a .items-most) (a .room) (a .valid) m)
+  verdict-same q x (refusal number p) = λ i. refusedAs number p
+  verdict-same q x (done m) = let a = query-accepted e s q x in ap answered (words-laws .verdict q n (omega (arith, fits q x)) (a .valid) m)
 
   pub query-held : h .number ≡ 0 → Held e s words
-  query-held z = go (known e s h words v)
+  query-held z = go (known e s n fits h words v)
     where
-      go : Known e s h words v → Held e s words
-      go (not-read q n) = absurd (omega arith)
-      go (was-read q x n w) =
+      go : Known e s n fits h words v → Held e s words
+      go (not-read q k) = absurd (omega arith)
+      go (was-read q x k w) =
           let a = query-accepted e s q x in
           record {
             query = q;
             is = x;
-            laid = rw w (words-laws .laid q (a .prefix-most) (a .items-most) (a .room));
+            laid = rw w (words-laws .laid q n (a .prefix-most) (a .items-most) (omega (arith, fits q x)));
             same = λ sign. ap (λ w. verdictOnWords w sign) w ∙ verdict-same q x sign;
           }
 
   pub verdict-refused : (set : Charset) (text : List ℕ) (r : Verdict) → (h .number ≡ 0 → ⊥) → r ≡ refusedAs (h .number) (h .place) → r ≡ verdictIn set (e, s) text
   unfolding verdictIn
-  verdict-refused set text r z y = go (known e s h words v)
+  verdict-refused set text r z y = go (known e s n fits h words v)
     where
-      go : Known e s h words v → r ≡ verdictBy (queryOf e s) (signOf set text)
-      go (not-read q n) = y ∙ ap (λ q. verdictBy q (signOf set text)) (sym q)
-      go (was-read q x n w) = absurd (z n)
+      go : Known e s n fits h words v → r ≡ verdictBy (queryOf e s) (signOf set text)
+      go (not-read q k) = y ∙ ap (λ q. verdictBy q (signOf set text)) (sym q)
+      go (was-read q x k w) = absurd (z k)
 
   pub verdict-judged : (set : Charset) (text : List ℕ) (r : Verdict) → h .number ≡ 0 → r ≡ verdictOnWords words (signOf set text) → r ≡ verdictIn set (e, s) text
   unfolding verdictIn

@@ -6,7 +6,6 @@ ghost use Rattle.verdict.specs.Verdict.{refusedAs};
 ghost use Rattle.verdict.specs.Inner.{verdictOnWords, meetingOf};
 use charset::Charset;
 use matching::Verdict;
-use queryitem::words::WORDS;
 use token::refusal::DONE;
 
 pub fn refused(number: u8, place: usize) -> Verdict
@@ -21,7 +20,7 @@ pub fn refused(number: u8, place: usize) -> Verdict
     }
 }
 
-pub fn judge_text<'a>(set: Charset, text: &'a [u8], words: &'a [u16; WORDS]) -> Verdict
+pub fn judge_text<'a>(set: Charset, text: &'a [u8], words: &'a [u16]) -> Verdict
     requires { ⌜ Laid (now words) ⌝ }
     ensures { λ r. ⌜ r ≡ verdictOnWords (now (words .entry)) (signOf set (now (text .entry))) ⌝ }
 {
@@ -51,7 +50,7 @@ pub struct Meeting {
     pub met: bool,
 }
 
-pub fn meets_text<'a>(set: Charset, text: &'a [u8], words: &'a [u16; WORDS]) -> Meeting
+pub fn meets_text<'a>(set: Charset, text: &'a [u8], words: &'a [u16]) -> Meeting
     requires { ⌜ Laid (now words) ⌝ }
     ensures { λ r. ⌜ r ≡ meetingOf (verdictOnWords (now (words .entry)) (signOf set (now (text .entry)))) ⌝ }
 {

@@ -6,8 +6,8 @@ use Rattle.dictionary.proofs.lent.narrow_by.Statement.{statement}
 use Rattle.dictionary.proofs.lent.narrow_by.Tie as tie
 
 -- what is known once the dictionary and the list are checked
-is-ready : (c : tie.Else2) → Ready (c .before .before .before .before .before .before .before .before .args .dict .now) (c .before .before .before .before .before .before .before .before .args .list .now) (c .before .before .before .before .before .before .before .before .args .n) (c .before .before .before .before .count-lines .result .lines) (c .before .before .before .before .before .before .before .before .args .flags .now)
-is-ready c = ready _ _ _ _ _ (c .before .before .before .before .count-lines .ensures) (c .before .before .before .if1 .left) (c .before .before .before .before .before .before .before .before .pre .0) _ (c .before .is-rising .ensures) (c .if2 .left)
+is-ready : (c : tie.Else2) → Ready (c .before .before .before .before .before .before .before .before .before .args .dict .now) (c .before .before .before .before .before .before .before .before .before .args .list .now) (c .before .before .before .before .before .before .before .before .before .args .n) (c .before .before .before .before .count-lines .result .lines) (c .before .before .before .before .before .before .before .before .before .args .flags .now)
+is-ready c = ready _ _ _ _ _ (c .before .before .before .before .count-lines .ensures) (c .before .before .before .if1 .left) (c .before .before .before .before .before .before .before .before .before .pre .0) _ (c .before .is-rising .ensures) (c .if2 .left)
 
 count-lines-requires : tie.Need-count-lines-requires
 count-lines-requires c κs = search needs
@@ -34,10 +34,10 @@ mark-requires : tie.Need-mark-requires
 mark-requires c κs = (ready-list (is-ready (c .before .before)), ready-inside (is-ready (c .before .before)))
 
 judge-listed-requires : tie.Need-judge-listed-requires
-judge-listed-requires c κs = (ready-lines (is-ready (c .before .before .before .before .before .before)), marks-room (is-ready (c .before .before .before .before .before .before)) _ (c .before .before .before .mark .ensures), c .before .before .before .before .before .before .before .before .before .before .before .before .before .before .pre .1)
+judge-listed-requires c κs = (ready-lines (is-ready (c .before .before .before .before .before .before)), marks-room (is-ready (c .before .before .before .before .before .before)) _ (c .before .before .before .mark .ensures), c .before .before .before .before .before .before .before .before .before .before .before .before .before .before .before .pre .1)
 
 first-unread-requires : tie.Need-first-unread-requires
-first-unread-requires c κs = (ready-list (is-ready (c .before .before .before .before .before .before .before .before .before .before .before)), flags-inside (is-ready (c .before .before .before .before .before .before .before .before .before .before .before)) (c .before .before .before .before .before .before .before .before .before .before .before .before .before .before .before .before .before .before .before .args .set) (c .before .before .before .before .before .before .before .before .before .before .before .before .before .before .before .before .before .before .before .args .words .now) (c .before .before .before .before .before .before .before .before .mark .ensures) (c .before .before .before .before .judge-listed .ensures))
+first-unread-requires c κs = (ready-list (is-ready (c .before .before .before .before .before .before .before .before .before .before .before)), flags-inside (is-ready (c .before .before .before .before .before .before .before .before .before .before .before)) (c .before .before .before .before .before .before .before .before .before .before .before .before .before .before .before .before .before .before .before .before .args .set) (c .before .before .before .before .before .before .before .before .before .before .before .before .before .before .before .before .before .before .before .before .args .words .now) (c .before .before .before .before .before .before .before .before .mark .ensures) (c .before .before .before .before .judge-listed .ensures))
 
 not-narrowed-requires-3 : tie.Need-not-narrowed-requires-3
 not-narrowed-requires-3 c κs = search needs
@@ -49,12 +49,12 @@ same-length-3 : tie.Need-same-length-3
 same-length-3 c = search needs
 
 returns-3 : tie.Need-returns-3
-returns-3 c = (by-13 (is-ready (c .before .before .before .before .before .before .before .before .before .before .before .before .before .before)) (c .before .before .before .before .before .before .before .before .before .before .before .before .before .before .before .before .before .before .before .before .before .before .args .set) (c .before .before .before .before .before .before .before .before .before .before .before .before .before .before .before .before .before .before .before .before .before .before .args .words .now) (c .before .before .before .before .before .before .before .before .before .before .before .mark .ensures) (c .before .before .before .before .before .before .before .judge-listed .ensures) (c .before .before .first-unread .ensures) (c .before .if3 .taken) _ (c .not-narrowed3 .ensures), flags-long (is-ready (c .before .before .before .before .before .before .before .before .before .before .before .before .before .before)) (c .before .before .before .before .before .before .before .before .before .before .before .before .before .before .before .before .before .before .before .before .before .before .args .set) (c .before .before .before .before .before .before .before .before .before .before .before .before .before .before .before .before .before .before .before .before .before .before .args .words .now) (c .before .before .before .before .before .before .before .before .before .before .before .mark .ensures) (c .before .before .before .before .before .before .before .judge-listed .ensures))
+returns-3 c = (by-13 (is-ready (c .before .before .before .before .before .before .before .before .before .before .before .before .before .before)) (c .before .before .before .before .before .before .before .before .before .before .before .before .before .before .before .before .before .before .before .before .before .before .before .args .set) (c .before .before .before .before .before .before .before .before .before .before .before .before .before .before .before .before .before .before .before .before .before .before .before .args .words .now) (c .before .before .before .before .before .before .before .before .before .before .before .mark .ensures) (c .before .before .before .before .before .before .before .judge-listed .ensures) (c .before .before .first-unread .ensures) (c .before .if3 .taken) _ (c .not-narrowed3 .ensures), flags-long (is-ready (c .before .before .before .before .before .before .before .before .before .before .before .before .before .before)) (c .before .before .before .before .before .before .before .before .before .before .before .before .before .before .before .before .before .before .before .before .before .before .before .args .set) (c .before .before .before .before .before .before .before .before .before .before .before .before .before .before .before .before .before .before .before .before .before .before .before .args .words .now) (c .before .before .before .before .before .before .before .before .before .before .before .mark .ensures) (c .before .before .before .before .before .before .before .judge-listed .ensures))
 
 compact-requires : tie.Need-compact-requires
-compact-requires c κs = (ready-list (is-ready (c .before .before .before .before .before .before .before .before .before .before .before .before .before .before .before)), flags-inside (is-ready (c .before .before .before .before .before .before .before .before .before .before .before .before .before .before .before)) (c .before .before .before .before .before .before .before .before .before .before .before .before .before .before .before .before .before .before .before .before .before .before .before .args .set) (c .before .before .before .before .before .before .before .before .before .before .before .before .before .before .before .before .before .before .before .before .before .before .before .args .words .now) (c .before .before .before .before .before .before .before .before .before .before .before .before .mark .ensures) (c .before .before .before .before .before .before .before .before .judge-listed .ensures))
+compact-requires c κs = (ready-list (is-ready (c .before .before .before .before .before .before .before .before .before .before .before .before .before .before .before)), flags-inside (is-ready (c .before .before .before .before .before .before .before .before .before .before .before .before .before .before .before)) (c .before .before .before .before .before .before .before .before .before .before .before .before .before .before .before .before .before .before .before .before .before .before .before .before .args .set) (c .before .before .before .before .before .before .before .before .before .before .before .before .before .before .before .before .before .before .before .before .before .before .before .before .args .words .now) (c .before .before .before .before .before .before .before .before .before .before .before .before .mark .ensures) (c .before .before .before .before .before .before .before .before .judge-listed .ensures))
 
-kept-within : (c : tie.After-compact) → c .compact .result ≤ c .before .before .before .before .before .before .before .before .before .before .before .before .before .before .before .before .before .before .before .before .before .before .before .before .args .n
+kept-within : (c : tie.After-compact) → c .compact .result ≤ c .before .before .before .before .before .before .before .before .before .before .before .before .before .before .before .before .before .before .before .before .before .before .before .before .before .args .n
 kept-within c = kept-most _ _ _ _ (c .compact .ensures .0)
 
 sub-dropped : tie.Need-sub-dropped
@@ -67,7 +67,7 @@ same-length-5 : tie.Need-same-length-5
 same-length-5 c = search needs
 
 returns-4 : tie.Need-returns-4
-returns-4 c = (by-done (is-ready (c .before .before .before .before .before .before .before .before .before .before .before .before .before .before .before .before .before .before)) (c .before .before .before .before .before .before .before .before .before .before .before .before .before .before .before .before .before .before .before .before .before .before .before .before .before .before .args .set) (c .before .before .before .before .before .before .before .before .before .before .before .before .before .before .before .before .before .before .before .before .before .before .before .before .before .before .args .words .now) (c .before .before .before .before .before .before .before .before .before .before .before .before .before .before .before .mark .ensures) (c .before .before .before .before .before .before .before .before .before .before .before .judge-listed .ensures) (c .before .before .before .before .before .before .first-unread .ensures) (c .before .before .before .before .before .if3 .left) _ _ (c .before .before .compact .ensures .0) (c .before .before .compact .ensures .1), flags-long (is-ready (c .before .before .before .before .before .before .before .before .before .before .before .before .before .before .before .before .before .before)) (c .before .before .before .before .before .before .before .before .before .before .before .before .before .before .before .before .before .before .before .before .before .before .before .before .before .before .args .set) (c .before .before .before .before .before .before .before .before .before .before .before .before .before .before .before .before .before .before .before .before .before .before .before .before .before .before .args .words .now) (c .before .before .before .before .before .before .before .before .before .before .before .before .before .before .before .mark .ensures) (c .before .before .before .before .before .before .before .before .before .before .before .judge-listed .ensures))
+returns-4 c = (by-done (is-ready (c .before .before .before .before .before .before .before .before .before .before .before .before .before .before .before .before .before .before)) (c .before .before .before .before .before .before .before .before .before .before .before .before .before .before .before .before .before .before .before .before .before .before .before .before .before .before .before .args .set) (c .before .before .before .before .before .before .before .before .before .before .before .before .before .before .before .before .before .before .before .before .before .before .before .before .before .before .before .args .words .now) (c .before .before .before .before .before .before .before .before .before .before .before .before .before .before .before .mark .ensures) (c .before .before .before .before .before .before .before .before .before .before .before .judge-listed .ensures) (c .before .before .before .before .before .before .first-unread .ensures) (c .before .before .before .before .before .if3 .left) _ _ (c .before .before .compact .ensures .0) (c .before .before .compact .ensures .1), flags-long (is-ready (c .before .before .before .before .before .before .before .before .before .before .before .before .before .before .before .before .before .before)) (c .before .before .before .before .before .before .before .before .before .before .before .before .before .before .before .before .before .before .before .before .before .before .before .before .before .before .before .args .set) (c .before .before .before .before .before .before .before .before .before .before .before .before .before .before .before .before .before .before .before .before .before .before .before .before .before .before .before .args .words .now) (c .before .before .before .before .before .before .before .before .before .before .before .before .before .before .before .mark .ensures) (c .before .before .before .before .before .before .before .before .before .before .before .judge-listed .ensures))
 
 pub narrow-by-spec : {M : Type 1} → statement M
 narrow-by-spec =

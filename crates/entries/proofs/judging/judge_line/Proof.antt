@@ -24,7 +24,7 @@ same-length : tie.Need-same-length
 same-length c = search needs
 
 returns-2 : tie.Need-returns-2
-returns-2 c = line-judged (c .before .before .before .before .before .before .args .flags .now) (c .before .before .before .before .before .before .args .e) _ _ (c .flag-by .ensures ∙ ap flagBy (c .before .meets-text .ensures)) (c .before .before .if1 .left)
+returns-2 c = line-judged (c .before .before .before .before .before .before .before .args .flags .now) (c .before .before .before .before .before .before .before .args .e) _ _ (c .flag-by .ensures ∙ ap flagBy (c .before .meets-text .ensures)) (c .before .before .if1 .left)
 
 pub judge-line-spec : {M : Type 1} → statement M
 judge-line-spec =

@@ -11,7 +11,7 @@ abbrev μ-loop : tie.MeasureT-loop
 μ-loop set dict lines words flags₀ start₀ passed₀ flags start passed = lines - passed
 
 loop-holds : tie.Need-loop-holds Inv-loop μ-loop
-loop-holds c = walking-start _ _ _ _ _ (c .before .before .pre .0)
+loop-holds c = walking-start _ _ _ _ _ (c .before .before .before .pre .0)
 
 line-end-requires : tie.Need-line-end-requires Inv-loop μ-loop
 line-end-requires c κs = omega (arith, walking-within (c .before .loop .inv) (c .loop-test .taken))
@@ -29,7 +29,7 @@ part-judge-line-end : tie.Need-part-judge-line-end Inv-loop μ-loop
 part-judge-line-end c = omega (arith, walking-line (c .before .before .loop .inv) (c .before .loop-test .taken) _ (c .line-end .ensures) .high)
 
 judge-line-requires : tie.Need-judge-line-requires Inv-loop μ-loop
-judge-line-requires c κs = (omega (arith, walking-long (c .before .before .before .before .loop .inv), c .before .before .before .before .before .before .before .pre .1), c .before .before .before .before .before .before .before .pre .2)
+judge-line-requires c κs = (omega (arith, walking-long (c .before .before .before .before .loop .inv), c .before .before .before .before .before .before .before .before .pre .1), c .before .before .before .before .before .before .before .before .pre .2)
 
 add-start : tie.Need-add-start Inv-loop μ-loop
 add-start c = omega (arith, walking-line (c .before .before .before .before .before .before .before .loop .inv) (c .before .before .before .before .before .before .loop-test .taken) _ (c .before .before .before .before .before .line-end .ensures) .high)

@@ -11,25 +11,25 @@ abbrev μ-loop : tie.MeasureT-loop
 μ-loop words m n codes at₀ j₀ at j = m - j
 
 returns : tie.Need-returns Inv-loop μ-loop
-returns c = begun-short (c .before .args .words .now) (c .before .args .codes .now) _ _ (c .if1 .taken)
+returns c = begun-short (c .before .before .args .words .now) (c .before .before .args .codes .now) _ _ (c .if1 .taken)
 
 loop-holds : tie.Need-loop-holds Inv-loop μ-loop
 loop-holds c = begun-start _ _ _ 0
 
 mul-fits-at : tie.Need-mul-fits-at Inv-loop μ-loop
-mul-fits-at c = omega (arith, c .before .before .if1 .left, c .loop-test .taken, c .before .before .before .pre .2)
+mul-fits-at c = omega (arith, c .before .before .if1 .left, c .loop-test .taken, c .before .before .before .before .pre .2)
 
 element-copy-out-fits-at : tie.Need-element-copy-out-fits-at Inv-loop μ-loop
-element-copy-out-fits-at c = omega (arith, c .before .before .if1 .left, c .loop-test .taken, c .before .before .before .pre .2)
+element-copy-out-fits-at c = omega (arith, c .before .before .if1 .left, c .loop-test .taken, c .before .before .before .before .pre .2)
 
 fits-at-requires : tie.Need-fits-at-requires Inv-loop μ-loop
-fits-at-requires c κs = begun-inside _ _ _ _ _ _ (c .before .before .loop .inv) (c .before .before .before .if1 .left) (c .before .before .before .before .pre .0) (c .before .before .before .before .pre .1) (c .before .loop-test .taken)
+fits-at-requires c κs = begun-inside _ _ _ _ _ _ (c .before .before .loop .inv) (c .before .before .before .if1 .left) (c .before .before .before .before .before .pre .0) (c .before .before .before .before .before .pre .1) (c .before .loop-test .taken)
 
 returns-2 : tie.Need-returns-2 Inv-loop μ-loop
 returns-2 c = begun-not _ _ _ _ _ _ (c .before .before .before .before .loop .inv) (c .before .before .before .before .before .if1 .left) (c .before .before .before .loop-test .taken) _ (c .before .fits-at .ensures) (c .if2 .taken)
 
 next-row-requires : tie.Need-next-row-requires Inv-loop μ-loop
-next-row-requires c κs = begun-inside _ _ _ _ _ _ (c .before .before .before .before .loop .inv) (c .before .before .before .before .before .if1 .left) (c .before .before .before .before .before .before .pre .0) (c .before .before .before .before .before .before .pre .1) (c .before .before .before .loop-test .taken)
+next-row-requires c κs = begun-inside _ _ _ _ _ _ (c .before .before .before .before .loop .inv) (c .before .before .before .before .before .if1 .left) (c .before .before .before .before .before .before .before .pre .0) (c .before .before .before .before .before .before .before .pre .1) (c .before .before .before .loop-test .taken)
 
 add-j : tie.Need-add-j Inv-loop μ-loop
 add-j c = omega arith

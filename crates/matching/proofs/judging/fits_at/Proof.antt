@@ -9,8 +9,8 @@ add-n c = search needs
 mul-n : tie.Need-mul-n
 mul-n c = search needs
 
-element-copy-out-n : tie.Need-element-copy-out-n
-element-copy-out-n c = search needs
+shared-slice-read-n : tie.Need-shared-slice-read-n
+shared-slice-read-n c = search needs
 
 cast-n : tie.Need-cast-n
 cast-n c = search needs
@@ -39,7 +39,7 @@ fits-at-spec =
     (tie.spec
     add-n
     mul-n
-    element-copy-out-n
+    shared-slice-read-n
     cast-n
     add-fits-one
     fits-one-requires

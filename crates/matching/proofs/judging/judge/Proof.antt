@@ -14,7 +14,7 @@ returns : tie.Need-returns
 returns c = verdict-not _ _ _ _ (c .before .before .after-prefix .ensures) (c .before .if1 .taken) _ (c .unmet .ensures)
 
 judge-rows-requires : tie.Need-judge-rows-requires
-judge-rows-requires c κs = (c .before .before .pre .0, verdict-start _ _ [] _ (c .before .after-prefix .ensures) (c .if1 .left), c .before .before .pre .2)
+judge-rows-requires c κs = (c .before .before .before .pre .0, verdict-start _ _ [] _ (c .before .after-prefix .ensures) (c .if1 .left), c .before .before .before .pre .2)
 
 returns-2 : tie.Need-returns-2
 returns-2 c = verdict-rows _ _ _ _ (c .before .before .after-prefix .ensures) (c .before .if1 .left) _ (c .judge-rows .ensures)

@@ -13,26 +13,26 @@ Inv-loop words at k codes xs ys n variance witnesses₀ i₀ j₀ witnesses i j 
 abbrev μ-loop : tie.MeasureT-loop
 μ-loop words at k codes xs ys n variance witnesses₀ i₀ j₀ witnesses i j = n - j
 
-element-copy-out-n : tie.Need-element-copy-out-n Inv-loop μ-loop
-element-copy-out-n c = search needs
+shared-slice-read-n : tie.Need-shared-slice-read-n Inv-loop μ-loop
+shared-slice-read-n c = search needs
 
 cast-n : tie.Need-cast-n Inv-loop μ-loop
 cast-n c = search needs
 
-element-copy-out-variance : tie.Need-element-copy-out-variance Inv-loop μ-loop
-element-copy-out-variance c = search needs
+shared-slice-read-variance : tie.Need-shared-slice-read-variance Inv-loop μ-loop
+shared-slice-read-variance c = search needs
 
 loop-holds : tie.Need-loop-holds Inv-loop μ-loop
-loop-holds c = judged-start _ _ _ _ (c .before .before .pre .1)
+loop-holds c = judged-start _ _ _ _ (c .before .before .before .pre .1)
 
 add-condition : tie.Need-add-condition Inv-loop μ-loop
-add-condition c = omega (arith, c .before .before .before .before .pre .0 .items-most, c .loop-test .taken)
+add-condition c = omega (arith, c .before .before .before .before .before .pre .0 .items-most, c .loop-test .taken)
 
 cast-condition : tie.Need-cast-condition Inv-loop μ-loop
-cast-condition c = omega (arith, c .before .before .before .before .pre .0 .items-most, c .loop-test .taken)
+cast-condition c = omega (arith, c .before .before .before .before .before .pre .0 .items-most, c .loop-test .taken)
 
 first-serving-requires : tie.Need-first-serving-requires Inv-loop μ-loop
-first-serving-requires c κs = (c .before .before .before .before .pre .2, judged-inside _ _ _ _ _ _ (c .before .loop .inv) (c .before .before .before .before .pre .0) refl (c .loop-test .taken))
+first-serving-requires c κs = (c .before .before .before .before .before .pre .2, judged-inside _ _ _ _ _ _ (c .before .loop .inv) (c .before .before .before .before .before .pre .0) refl (c .loop-test .taken))
 
 unmet-requires : tie.Need-unmet-requires Inv-loop μ-loop
 unmet-requires c κs = search needs
@@ -41,16 +41,16 @@ returns : tie.Need-returns Inv-loop μ-loop
 returns c = rows-not _ _ _ _ _ _ (c .before .before .before .before .loop .inv) refl (c .before .before .before .loop-test .taken) _ (c .before .before .first-serving .ensures) (c .before .if1 .taken) _ (c .unmet .ensures)
 
 mul-witnesses : tie.Need-mul-witnesses Inv-loop μ-loop
-mul-witnesses c = omega (arith, c .before .before .before .before .before .before .pre .0 .items-most, c .before .before .loop-test .taken)
+mul-witnesses c = omega (arith, c .before .before .before .before .before .before .before .pre .0 .items-most, c .before .before .loop-test .taken)
 
 array-write-witnesses : tie.Need-array-write-witnesses Inv-loop μ-loop
-array-write-witnesses c = omega (arith, c .before .before .before .before .before .before .pre .0 .items-most, c .before .before .loop-test .taken)
+array-write-witnesses c = omega (arith, c .before .before .before .before .before .before .before .pre .0 .items-most, c .before .before .loop-test .taken)
 
 next-row-requires : tie.Need-next-row-requires Inv-loop μ-loop
-next-row-requires c κs = judged-inside _ _ _ _ _ _ (c .before .before .before .loop .inv) (c .before .before .before .before .before .before .pre .0) refl (c .before .before .loop-test .taken)
+next-row-requires c κs = judged-inside _ _ _ _ _ _ (c .before .before .before .loop .inv) (c .before .before .before .before .before .before .before .pre .0) refl (c .before .before .loop-test .taken)
 
 add-j : tie.Need-add-j Inv-loop μ-loop
-add-j c = omega (arith, c .before .before .before .before .before .before .before .pre .0 .items-most, c .before .before .before .loop-test .taken)
+add-j c = omega (arith, c .before .before .before .before .before .before .before .before .pre .0 .items-most, c .before .before .before .loop-test .taken)
 
 loop-less : tie.Need-loop-less Inv-loop μ-loop
 loop-less c = omega (arith, c .before .before .before .loop-test .taken)
@@ -67,9 +67,9 @@ judge-rows-spec =
     (tie.spec
     Inv-loop
     μ-loop
-    element-copy-out-n
+    shared-slice-read-n
     cast-n
-    element-copy-out-variance
+    shared-slice-read-variance
     loop-holds
     add-condition
     cast-condition

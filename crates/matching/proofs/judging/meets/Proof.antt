@@ -11,7 +11,7 @@ returns : tie.Need-returns
 returns c = met-not _ _ _ _ (c .before .after-prefix .ensures) (c .if1 .taken)
 
 meets-rows-requires : tie.Need-meets-rows-requires
-meets-rows-requires c κs = (c .before .before .pre .0, verdict-start _ _ [] _ (c .before .after-prefix .ensures) (c .if1 .left), c .before .before .pre .2)
+meets-rows-requires c κs = (c .before .before .before .pre .0, verdict-start _ _ [] _ (c .before .after-prefix .ensures) (c .if1 .left), c .before .before .before .pre .2)
 
 returns-2 : tie.Need-returns-2
 returns-2 c = met-rows _ _ _ _ (c .before .before .after-prefix .ensures) (c .before .if1 .left) _ (c .meets-rows .ensures)

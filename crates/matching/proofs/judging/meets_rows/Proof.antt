@@ -16,29 +16,29 @@ Inv-loop words at k codes xs ys n variance i₀ j₀ i j = (witnesses : List ℕ
 abbrev μ-loop : tie.MeasureT-loop
 μ-loop words at k codes xs ys n variance i₀ j₀ i j = n - j
 
-element-copy-out-n : tie.Need-element-copy-out-n Inv-loop μ-loop
-element-copy-out-n c = search needs
+shared-slice-read-n : tie.Need-shared-slice-read-n Inv-loop μ-loop
+shared-slice-read-n c = search needs
 
 cast-n : tie.Need-cast-n Inv-loop μ-loop
 cast-n c = search needs
 
-element-copy-out-variance : tie.Need-element-copy-out-variance Inv-loop μ-loop
-element-copy-out-variance c = search needs
+shared-slice-read-variance : tie.Need-shared-slice-read-variance Inv-loop μ-loop
+shared-slice-read-variance c = search needs
 
 loop-holds : tie.Need-loop-holds Inv-loop μ-loop
-loop-holds c = (_, judged-start _ _ _ _ (c .before .before .pre .1))
+loop-holds c = (_, judged-start _ _ _ _ (c .before .before .before .pre .1))
 
 first-serving-requires : tie.Need-first-serving-requires Inv-loop μ-loop
-first-serving-requires c κs = (c .before .before .before .before .pre .2, judged-inside _ _ _ _ _ _ (c .before .loop .inv .1) (c .before .before .before .before .pre .0) refl (c .loop-test .taken))
+first-serving-requires c κs = (c .before .before .before .before .before .pre .2, judged-inside _ _ _ _ _ _ (c .before .loop .inv .1) (c .before .before .before .before .before .pre .0) refl (c .loop-test .taken))
 
 returns : tie.Need-returns Inv-loop μ-loop
 returns c = meets-not _ _ _ _ _ _ (c .before .before .before .loop .inv .1) refl (c .before .before .loop-test .taken) _ (c .before .first-serving .ensures) (c .if1 .taken)
 
 next-row-requires : tie.Need-next-row-requires Inv-loop μ-loop
-next-row-requires c κs = judged-inside _ _ _ _ _ _ (c .before .before .before .loop .inv .1) (c .before .before .before .before .before .before .pre .0) refl (c .before .before .loop-test .taken)
+next-row-requires c κs = judged-inside _ _ _ _ _ _ (c .before .before .before .loop .inv .1) (c .before .before .before .before .before .before .before .pre .0) refl (c .before .before .loop-test .taken)
 
 add-j : tie.Need-add-j Inv-loop μ-loop
-add-j c = omega (arith, c .before .before .before .before .before .before .before .pre .0 .items-most, c .before .before .before .loop-test .taken)
+add-j c = omega (arith, c .before .before .before .before .before .before .before .before .pre .0 .items-most, c .before .before .before .loop-test .taken)
 
 loop-less : tie.Need-loop-less Inv-loop μ-loop
 loop-less c = omega (arith, c .before .before .before .loop-test .taken)
@@ -55,9 +55,9 @@ meets-rows-spec =
     (tie.spec
     Inv-loop
     μ-loop
-    element-copy-out-n
+    shared-slice-read-n
     cast-n
-    element-copy-out-variance
+    shared-slice-read-variance
     loop-holds
     first-serving-requires
     returns

@@ -12,8 +12,8 @@ returns c = row-unfit _ _ _ _ _ (c .before .fits-at .ensures) (c .if1 .taken)
 mul-across : tie.Need-mul-across
 mul-across c = search needs
 
-element-copy-out-across : tie.Need-element-copy-out-across
-element-copy-out-across c = search needs
+shared-slice-read-across : tie.Need-shared-slice-read-across
+shared-slice-read-across c = search needs
 
 returns-2 : tie.Need-returns-2
 returns-2 c = row-bare _ _ _ _ _ (c .before .before .before .fits-at .ensures) (c .before .before .if1 .left) (c .if2 .taken)
@@ -30,8 +30,8 @@ add-near c = search needs
 mul-near : tie.Need-mul-near
 mul-near c = search needs
 
-element-copy-out-near : tie.Need-element-copy-out-near
-element-copy-out-near c = search needs
+shared-slice-read-near : tie.Need-shared-slice-read-near
+shared-slice-read-near c = search needs
 
 near-requires-2 : tie.Need-near-requires-2
 near-requires-2 c κs = search needs
@@ -46,12 +46,12 @@ serves-at-spec =
     fits-at-requires
     returns
     mul-across
-    element-copy-out-across
+    shared-slice-read-across
     returns-2
     near-requires
     returns-3
     add-near
     mul-near
-    element-copy-out-near
+    shared-slice-read-near
     near-requires-2
     returns-4)

@@ -3,11 +3,6 @@ use Rattle.query.proofs.Texts.{text-wrong, text-cut}
 use borrow.Author.Needs.{needs}
 use Rattle.query.proofs.words.read_into.Statement.{statement}
 use Rattle.query.proofs.words.read_into.Tie as tie
-use Rattle.query.proofs.words.read_into.Reads as reads
-use Rattle.query.proofs.words.read_into.Lts as lts
-use Rattle.query.proofs.words.after_q_into.Reads as after-q-into-reads
-use Rattle.query.proofs.words.answer.Reads as answer-reads
-use Rattle.token.proofs.reading.byte_at.Reads as byte-at-reads
 
 byte-at-requires : tie.Need-byte-at-requires
 byte-at-requires c κs = search needs
@@ -16,7 +11,7 @@ enum-told : tie.Need-enum-told
 enum-told c = search needs
 
 after-q-into-requires : tie.Need-after-q-into-requires
-after-q-into-requires c κs = (asks-it (c .before .before .before .before .before .args .edition) _ _ (c .before .before .before .byte-at .ensures) _ (c .before .enum-told .given .1), c .before .before .before .before .before .pre)
+after-q-into-requires c κs = (asks-it (c .before .before .before .before .before .before .args .edition) _ _ (c .before .before .before .byte-at .ensures) _ (c .before .enum-told .given .1), c .before .before .before .before .before .before .pre)
 
 enum-known-p : tie.Need-enum-known-p
 enum-known-p c = search needs
@@ -30,14 +25,17 @@ enum-told-2 c = search needs
 answer-requires-2 : tie.Need-answer-requires-2
 answer-requires-2 c κs = search needs
 
+same-length : tie.Need-same-length
+same-length c = search needs
+
 returns : tie.Need-returns
 returns c = search needs
 
 returns-2 : tie.Need-returns-2
-returns-2 c = text-wrong (c .before .before .before .before .before .before .args .edition) _ _ _ _ (q-wrong (c .before .before .before .before .before .before .args .edition) _ _ (c .before .before .before .before .byte-at .ensures) _ (c .before .before .p .given .1)) (c .answer .ensures)
+returns-2 c = text-wrong (c .before .before .before .before .before .before .before .args .edition) _ _ _ _ _ (q-wrong (c .before .before .before .before .before .before .before .args .edition) _ _ (c .before .before .before .before .byte-at .ensures) _ (c .before .before .p .given .1)) (c .answer .ensures)
 
 returns-3 : tie.Need-returns-3
-returns-3 c = text-cut (c .before .before .before .before .before .args .edition) _ _ _ (q-short (c .before .before .before .before .before .args .edition) _ _ (c .before .before .before .byte-at .ensures) (c .before .enum-told2 .given .1)) (c .answer2 .ensures)
+returns-3 c = text-cut (c .before .before .before .before .before .before .args .edition) _ _ _ _ (q-short (c .before .before .before .before .before .before .args .edition) _ _ (c .before .before .before .byte-at .ensures) (c .before .enum-told2 .given .1)) (c .answer2 .ensures)
 
 pub read-into-spec : {M : Type 1} → statement M
 read-into-spec =
@@ -50,6 +48,7 @@ read-into-spec =
     answer-requires
     enum-told-2
     answer-requires-2
+    same-length
     returns
     returns-2
     returns-3)

@@ -1,15 +1,8 @@
 use Rattle.query.proofs.Tails.{items-inside, tail-refused, tail-wrong, tail-short, tail-fine}
+use native.Mathlib.Omega.{arith}
 use borrow.Author.Needs.{needs}
 use Rattle.query.proofs.words.tail_into.Statement.{statement}
 use Rattle.query.proofs.words.tail_into.Tie as tie
-use Rattle.query.proofs.words.tail_into.Reads as reads
-use Rattle.query.proofs.words.tail_into.Lts as lts
-use Rattle.query.proofs.words.answer.Reads as answer-reads
-use Rattle.query.proofs.words.either.Reads as either-reads
-use Rattle.query.proofs.words.limited_into.Reads as limited-into-reads
-use Rattle.querypart.proofs.alternatives.or_earlier.Reads as or-earlier-reads
-use Rattle.querypart.proofs.items.items_into.Reads as items-into-reads
-use Rattle.querypart.proofs.variance.variance_end.Reads as variance-end-reads
 
 items-into-requires : tie.Need-items-into-requires
 items-into-requires c κs = search needs
@@ -17,11 +10,14 @@ items-into-requires c κs = search needs
 answer-requires : tie.Need-answer-requires
 answer-requires c κs = search needs
 
+same-length : tie.Need-same-length
+same-length c = search needs
+
 returns : tie.Need-returns
-returns c = tail-refused (c .before .before .before .before .before .args .edition) _ _ _ (c .before .before .before .before .before .pre .1) _ _ _ (c .before .before .items-into .ensures) _ (c .before .if1 .taken) (c .answer .ensures)
+returns c = tail-refused (c .before .before .before .before .before .before .before .before .args .edition) _ _ _ (c .before .before .before .before .before .before .before .before .pre .1) _ _ _ (c .before .before .before .before .items-into .ensures) _ (c .before .if1 .taken) (c .answer .ensures)
 
 variance-end-requires : tie.Need-variance-end-requires
-variance-end-requires c κs = items-inside (c .before .before .before .before .args .edition) _ _ _ _ _ _ _ (c .before .items-into .ensures) (c .before .before .before .before .pre .1) (c .if1 .left)
+variance-end-requires c κs = items-inside (c .before .before .before .before .before .before .before .args .edition) _ _ _ _ _ _ _ (c .before .before .before .items-into .ensures) (c .before .before .before .before .before .before .before .pre .1) (c .if1 .left)
 
 enum-known-v : tie.Need-enum-known-v
 enum-known-v c = search needs
@@ -33,7 +29,7 @@ either-requires : tie.Need-either-requires
 either-requires c κs = search needs
 
 limited-into-requires : tie.Need-limited-into-requires
-limited-into-requires c κs = c .before .before .before .before .before .before .before .before .items-into .ensures .size
+limited-into-requires c κs = omega (arith, c .before .before .before .before .before .before .before .before .before .before .items-into .ensures .size, c .before .before .before .before .before .before .before .before .before .before .before .before .before .before .pre .2)
 
 enum-known-p : tie.Need-enum-known-p
 enum-known-p c = search needs
@@ -47,14 +43,23 @@ enum-told c = search needs
 answer-requires-3 : tie.Need-answer-requires-3
 answer-requires-3 c κs = search needs
 
+same-length-2 : tie.Need-same-length-2
+same-length-2 c = search needs
+
 returns-2 : tie.Need-returns-2
-returns-2 c = tail-fine (c .before .before .before .before .before .before .before .before .before .before .before .before .args .edition) _ _ _ (c .before .before .before .before .before .before .before .before .before .before .before .before .pre .1) _ _ _ (c .before .before .before .before .before .before .before .before .before .items-into .ensures) (c .before .before .before .before .before .before .before .before .if1 .left) _ (c .before .before .before .before .before .before .before .variance-end .ensures) _ _ _ _ _ (c .before .before .before .before .before .v .given .1) (c .before .before .before .or-earlier .ensures) (c .before .before .either .ensures) (c .limited-into .ensures)
+returns-2 c = tail-fine (c .before .before .before .before .before .before .before .before .before .before .before .before .before .before .before .before .before .args .edition) _ _ _ (c .before .before .before .before .before .before .before .before .before .before .before .before .before .before .before .before .before .pre .1) _ _ _ (c .before .before .before .before .before .before .before .before .before .before .before .before .before .items-into .ensures) (c .before .before .before .before .before .before .before .before .before .before .if1 .left) _ (c .before .before .before .before .before .before .before .before .before .variance-end .ensures) _ _ _ _ _ (c .before .before .before .before .before .before .before .v .given .1) (c .before .before .before .before .before .or-earlier .ensures) (c .before .before .before .before .either .ensures) (c .before .before .limited-into .ensures)
+
+same-length-3 : tie.Need-same-length-3
+same-length-3 c = search needs
 
 returns-3 : tie.Need-returns-3
-returns-3 c = tail-wrong (c .before .before .before .before .before .before .before .before .before .args .edition) _ _ _ (c .before .before .before .before .before .before .before .before .before .pre .1) _ _ _ (c .before .before .before .before .before .before .items-into .ensures) (c .before .before .before .before .before .if1 .left) _ (c .before .before .before .before .variance-end .ensures) _ _ (c .before .before .p .given .1) (c .answer2 .ensures)
+returns-3 c = tail-wrong (c .before .before .before .before .before .before .before .before .before .before .before .before .args .edition) _ _ _ (c .before .before .before .before .before .before .before .before .before .before .before .before .pre .1) _ _ _ (c .before .before .before .before .before .before .before .before .items-into .ensures) (c .before .before .before .before .before .if1 .left) _ (c .before .before .before .before .variance-end .ensures) _ _ (c .before .before .p .given .1) (c .answer2 .ensures)
+
+same-length-4 : tie.Need-same-length-4
+same-length-4 c = search needs
 
 returns-4 : tie.Need-returns-4
-returns-4 c = tail-short (c .before .before .before .before .before .before .before .before .args .edition) _ _ _ (c .before .before .before .before .before .before .before .before .pre .1) _ _ _ (c .before .before .before .before .before .items-into .ensures) (c .before .before .before .before .if1 .left) _ (c .before .before .before .variance-end .ensures) _ (c .before .enum-told .given .1) (c .answer3 .ensures)
+returns-4 c = tail-short (c .before .before .before .before .before .before .before .before .before .before .before .args .edition) _ _ _ (c .before .before .before .before .before .before .before .before .before .before .before .pre .1) _ _ _ (c .before .before .before .before .before .before .before .items-into .ensures) (c .before .before .before .before .if1 .left) _ (c .before .before .before .variance-end .ensures) _ (c .before .enum-told .given .1) (c .answer3 .ensures)
 
 pub tail-into-spec : {M : Type 1} → statement M
 tail-into-spec =
@@ -62,6 +67,7 @@ tail-into-spec =
     (tie.spec
     items-into-requires
     answer-requires
+    same-length
     returns
     variance-end-requires
     enum-known-v
@@ -72,6 +78,9 @@ tail-into-spec =
     answer-requires-2
     enum-told
     answer-requires-3
+    same-length-2
     returns-2
+    same-length-3
     returns-3
+    same-length-4
     returns-4)

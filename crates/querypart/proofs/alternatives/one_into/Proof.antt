@@ -2,13 +2,6 @@ use Rattle.querypart.proofs.Lists.{single-found, single-wrong, single-s
 use borrow.Author.Needs.{needs}
 use Rattle.querypart.proofs.alternatives.one_into.Statement.{statement}
 use Rattle.querypart.proofs.alternatives.one_into.Tie as tie
-use Rattle.querypart.proofs.alternatives.one_into.Reads as reads
-use Rattle.querypart.proofs.alternatives.one_into.Lts as lts
-use Rattle.queryitem.proofs.item.item_at.Reads as item-at-reads
-use Rattle.querypart.proofs.alternatives.list_of.Reads as list-of-reads
-use Rattle.querypart.proofs.alternatives.no_list.Reads as no-list-reads
-use Rattle.querypart.proofs.alternatives.note.Reads as note-reads
-use Rattle.querypart.proofs.alternatives.put_three.Reads as put-three-reads
 
 item-at-requires : tie.Need-item-at-requires
 item-at-requires c κs = search needs
@@ -37,14 +30,17 @@ enum-told c = search needs
 no-list-requires-2 : tie.Need-no-list-requires-2
 no-list-requires-2 c κs = search needs
 
+same-length : tie.Need-same-length
+same-length c = search needs
+
 returns : tie.Need-returns
-returns c = single-found _ _ _ _ _ _ _ (c .before .before .before .before .before .before .before .item-at .ensures) (c .before .before .before .before .before .before .before .before .before .pre .1) (c .before .before .before .before .before .before .before .before .before .pre .0) _ _ (c .before .before .before .before .before .item .given .1) _ (c .before .before .put-three .ensures) _ (c .before .note .ensures) _ (c .list-of .ensures)
+returns c = single-found _ _ _ _ _ _ _ (c .before .before .before .before .before .before .before .before .before .item-at .ensures) (c .before .before .before .before .before .before .before .before .before .before .before .before .pre .0) _ _ (c .before .before .before .before .before .before .before .item .given .1) _ (c .before .before .before .before .put-three .ensures) _ (c .before .note .ensures) _ (c .list-of .ensures)
 
 returns-2 : tie.Need-returns-2
-returns-2 c = single-wrong _ _ _ _ _ _ _ (c .before .before .before .before .item-at .ensures) (c .before .before .before .before .before .before .pre .1) _ (c .before .before .p .given .1) _ (c .no-list .ensures)
+returns-2 c = single-wrong _ _ _ _ _ _ _ (c .before .before .before .before .item-at .ensures) _ (c .before .before .p .given .1) _ (c .no-list .ensures)
 
 returns-3 : tie.Need-returns-3
-returns-3 c = single-short _ _ _ _ _ _ _ (c .before .before .before .item-at .ensures) (c .before .before .before .before .before .pre .1) (c .before .enum-told .given .1) _ (c .no-list2 .ensures)
+returns-3 c = single-short _ _ _ _ _ _ _ (c .before .before .before .item-at .ensures) (c .before .enum-told .given .1) _ (c .no-list2 .ensures)
 
 pub one-into-spec : {M : Type 1} → statement M
 one-into-spec =
@@ -59,6 +55,7 @@ one-into-spec =
     no-list-requires
     enum-told
     no-list-requires-2
+    same-length
     returns
     returns-2
     returns-3)

@@ -14,7 +14,7 @@ returns : tie.Need-returns
 returns c = text-refused _ _ _ _ _ _ _ (c .before .before .read-into .ensures) _ _ (c .before .if1 .taken) (c .refused .ensures)
 
 judge-requires : tie.Need-judge-requires
-judge-requires c κs = (c .before .before .before .before .before .before .before .before .before .before .before .pre, (sign-few _ _ _ _ _ _ _ (c .before .before .before .before .before .read-into .ensures) [] (c .before .before .before .before .if1 .left)) .0, (sign-few _ _ _ _ _ _ _ (c .before .before .before .before .before .read-into .ensures) [] (c .before .before .before .before .if1 .left)) .1)
+judge-requires c κs = (c .before .before .before .before .before .before .before .before .before .before .before .before .pre, (sign-few _ _ _ _ _ _ _ (c .before .before .before .before .before .read-into .ensures) [] (c .before .before .before .before .if1 .left)) .0, (sign-few _ _ _ _ _ _ _ (c .before .before .before .before .before .read-into .ensures) [] (c .before .before .before .before .if1 .left)) .1)
 
 returns-2 : tie.Need-returns-2
 returns-2 c = text-judged _ _ _ _ _ _ _ (c .before .before .before .before .before .before .read-into .ensures) _ _ (c .before .before .before .before .before .if1 .left) (c .judge .ensures)

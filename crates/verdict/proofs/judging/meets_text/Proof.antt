@@ -11,7 +11,7 @@ returns : tie.Need-returns
 returns c = meeting-refused _ _ _ _ _ _ _ (c .before .read-into .ensures) _ (c .if1 .taken)
 
 meets-requires : tie.Need-meets-requires
-meets-requires c κs = (c .before .before .before .before .before .before .before .before .before .before .before .pre, (sign-few _ _ _ _ _ _ _ (c .before .before .before .before .before .read-into .ensures) [] (c .before .before .before .before .if1 .left)) .0, (sign-few _ _ _ _ _ _ _ (c .before .before .before .before .before .read-into .ensures) [] (c .before .before .before .before .if1 .left)) .1)
+meets-requires c κs = (c .before .before .before .before .before .before .before .before .before .before .before .before .pre, (sign-few _ _ _ _ _ _ _ (c .before .before .before .before .before .read-into .ensures) [] (c .before .before .before .before .if1 .left)) .0, (sign-few _ _ _ _ _ _ _ (c .before .before .before .before .before .read-into .ensures) [] (c .before .before .before .before .if1 .left)) .1)
 
 returns-2 : tie.Need-returns-2
 returns-2 c = meeting-judged _ _ _ _ _ _ _ (c .before .before .before .before .before .before .read-into .ensures) _ (c .before .before .before .before .before .if1 .left) _ (c .meets .ensures)
