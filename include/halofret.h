@@ -21,8 +21,8 @@
  * Memory. Lent buffers must not overlap. A pointer that goes with a length or a room of 0 may be
  * null; sign, styling, centre and answer must not be. No call keeps a pointer, takes memory or has
  * a state: calls on different memory may run at the same time, and any number may read the same
- * text, size list or dictionary. halofret_narrow needs 68 KB of stack below its caller,
- * halofret_write_styling 13 KB, every other function 4 KB.
+ * text, size list or dictionary. halofret_narrow needs 72 KB of stack below its caller,
+ * halofret_write_styling 13 KB, every other function 6 KB.
  *
  * Time grows with the length of what is lent, in halofret_fetch with that of both dictionaries,
  * whichever line is asked for.

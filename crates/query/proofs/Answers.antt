@@ -47,7 +47,7 @@ query-counted e s =
 pub all-fit : (e : Edition) (s : List ℕ) → Fits e s wordCount
 all-fit e s q z = query-accepted e s q z .room
 
-pub short-fit : (e : Edition) (s : List ℕ) (n : ℕ) → 4 + 6 * length s + spare ≤ n → Fits e s n
+pub short-fit : (e : Edition) (s : List ℕ) (n : ℕ) → 8 + 3 * length s + 2 * spare ≤ 2 * n → Fits e s n
 unfolding queryOf
 short-fit e s n h q z =
     let d = andThen-done (ofOutcome (length s) (readQuery e s)) _ z in

@@ -11,10 +11,10 @@ use token::refusal::DONE;
 
 pub mod judging;
 
-// The bytes of a short query, and the words in which each has room: 4 + 6 * SHORT_QUERY + 21.
+// The bytes of a short query, and the words in which each has room, by three words to two bytes: 4 + 64 * 3 / 2 + 21.
 const SHORT_QUERY: usize = 64;
 
-const SHORT_WORDS: usize = 409;
+const SHORT_WORDS: usize = 121;
 
 // The verdict, with words in which the query has room.
 fn verdict_with(

@@ -9,7 +9,7 @@ slice-aggregate-verdict-with : tie.Need-slice-aggregate-verdict-with
 slice-aggregate-verdict-with c = search needs
 
 verdict-with-requires : tie.Need-verdict-with-requires
-verdict-with-requires c κs = ((omega arith, refl), short-fit (c .before .before .before .before .args .edition) _ 409 (omega (arith, c .before .if1 .taken)))
+verdict-with-requires c κs = ((omega arith, refl), short-fit (c .before .before .before .before .args .edition) _ 121 (omega (arith, c .before .if1 .taken)))
 
 returns : tie.Need-returns
 returns c = c .before .verdict-with .ensures
