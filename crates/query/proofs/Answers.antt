@@ -23,7 +23,7 @@ use Rattle.querypart.specs.Spots.{firstReversed}
 use Rattle.querypart.specs.Inner.{few}
 use Rattle.query.specs.declared.words.Head.{Head}
 use Rattle.query.specs.Reading.{spotsOf, inOrder, limited, queryOf, readingOf}
-use Rattle.query.specs.Inner.{headOf, Fits, ReadInto}
+use Rattle.query.specs.Inner.{headOf, ReadInto}
 use Rattle.query.proofs.Accepted.{limited-passed, query-accepted}
 
 -- no refusal has the number 0
@@ -44,6 +44,11 @@ query-counted e s =
     (λ t. limited-counted (meaning (spelling e .means) t) (firstReversed (spotsOf (spelling e) t)))
 
 -- ROOM: of every query in an array of wordCount, and of a short text's query in a short one
+
+-- n words in which every query of a text has room, and 21 more
+abbrev pub Fits : Edition → List ℕ → ℕ → Type 0
+Fits e s n = (q : Query) → queryOf e s ≡ done q → length (wordsOf q) + spare ≤ n
+
 pub all-fit : (e : Edition) (s : List ℕ) → Fits e s wordCount
 all-fit e s q z = query-accepted e s q z .room
 

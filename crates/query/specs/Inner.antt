@@ -105,10 +105,6 @@ module _ (e : Edition) where
 
   -- THE QUERY
 
-  -- n words in which every query of a text has room, and 21 more
-  abbrev pub Fits : List ℕ → ℕ → Type 0
-  Fits s n = (q : Query) → queryOf e s ≡ done q → length (wordsOf q) + spare ≤ n
-
   -- its words lie in the n that were lent if there is room for them and 21 more
   pub record ReadInto (s : List ℕ) (n : ℕ) (h : Head) (words : List ℕ) : Type 0 where
     pub is : h ≡ headOf (queryOf e s)

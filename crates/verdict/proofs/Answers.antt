@@ -1,5 +1,5 @@
 -- From a query that was read into words and a sign that was read into arrays to the verdict: one law for each return.
-use Prim.Native.Nat.{ℕ, _≤_}
+use Prim.Native.Nat.{ℕ, zero, suc, _≤_, _<_}
 use mathlib.Core.Path.{_≡_, refl, sym, ap, _∙_}
 use mathlib.Core.List.{List}
 use mathlib.Core.Bool.{Bool, false}
@@ -19,15 +19,15 @@ use Rattle.querygrammar.specs.Query.{Query}
 use Rattle.queryitem.specs.Words.{wordsOf}
 use Rattle.query.specs.declared.words.Head.{Head}
 use Rattle.query.specs.Reading.{queryOf}
-use Rattle.query.specs.Inner.{Fits, ReadInto}
-use Rattle.query.proofs.Answers.{Known, not-read, was-read, known}
+use Rattle.query.specs.Inner.{ReadInto}
+use Rattle.query.proofs.Answers.{Fits, Known, not-read, was-read, known}
 use Rattle.query.proofs.Accepted.{query-accepted}
 use Rattle.matching.specs.declared.Verdict.{Verdict}
 use Rattle.matching.specs.Meets.{Judgement, unmet, met, isMet, answered}
 use Rattle.matching.specs.Inner.{Laid, verdictWords}
 use Rattle.matching.proofs.WordsLaws.{words-laws}
 use Rattle.verdict.specs.Verdict.{refusedAs, verdictOn, verdictBy, verdictIn}
-use Rattle.verdict.specs.Inner.{verdictOnWords, meetingOf}
+use Rattle.verdict.specs.Inner.{verdictOnWords, verdictAfter, meetingOf}
 
 answered-meeting : (j : Judgement) → record { number = 0; met = isMet j } ≡ meetingOf (answered j)
 answered-meeting (unmet n) = refl
@@ -65,6 +65,19 @@ module _ (set : Charset) (text : List ℕ) (h : SignHead) (array codes xs ys : L
       let v = verdictWords words (upto (at array) (h .«prefix_count»)) (upto (symbolAt codes xs ys) (h .«symbol_count»)) in
       (λ i. record { number = 0; met = e i }) ∙ answered-meeting v ∙ ap meetingOf (text-judged (answered v) z refl)
 
+-- AFTER THE QUERY
+
+after-refused : (n place : ℕ) (words : List ℕ) (sign : Result Meaning) → 0 < n → verdictAfter n place words sign ≡ refusedAs n place
+after-refused zero place words sign k = absurd (omega arith)
+after-refused (suc n) place words sign k = refl
+
+pub by-refused : (n place : ℕ) (words : List ℕ) (sign : Result Meaning) (r : Verdict) → (n ≡ 0 → ⊥) → r ≡ refusedAs n place → r ≡ verdictAfter n place words sign
+by-refused zero place words sign r z e = absurd (z refl)
+by-refused (suc n) place words sign r z e = e
+
+pub by-judged : (n place : ℕ) (words : List ℕ) (sign : Result Meaning) (r : Verdict) → n ≡ 0 → r ≡ verdictOnWords words sign → r ≡ verdictAfter n place words sign
+by-judged n place words sign r z e = rw z e
+
 -- THE QUERY IN WORDS
 
 -- a query that was accepted: its words are laid as judging asks, and their verdict is its own
@@ -94,16 +107,15 @@ module _ (e : Edition) (s : List ℕ) (n : ℕ) (fits : Fits e s n) (h : Head) (
             same = λ sign. ap (λ w. verdictOnWords w sign) w ∙ verdict-same q x sign;
           }
 
-  pub verdict-refused : (set : Charset) (text : List ℕ) (r : Verdict) → (h .number ≡ 0 → ⊥) → r ≡ refusedAs (h .number) (h .place) → r ≡ verdictIn set (e, s) text
+  pub query-laid : h .number ≡ 0 → Laid words
+  query-laid z = query-held z .laid
+
+  pub verdict-is : (set : Charset) (text : List ℕ) (r : Verdict) → r ≡ verdictAfter (h .number) (h .place) words (signOf set text) → r ≡ verdictIn set (e, s) text
   unfolding verdictIn
-  verdict-refused set text r z y = go (known e s n fits h words v)
+  verdict-is set text r y = go (known e s n fits h words v)
     where
       go : Known e s n fits h words v → r ≡ verdictBy (queryOf e s) (signOf set text)
-      go (not-read q k) = y ∙ ap (λ q. verdictBy q (signOf set text)) (sym q)
-      go (was-read q x k w) = absurd (z k)
-
-  pub verdict-judged : (set : Charset) (text : List ℕ) (r : Verdict) → h .number ≡ 0 → r ≡ verdictOnWords words (signOf set text) → r ≡ verdictIn set (e, s) text
-  unfolding verdictIn
-  verdict-judged set text r z y =
-      let k = query-held z in
-      y ∙ k .same (signOf set text) ∙ ap (λ q. verdictBy q (signOf set text)) (sym (k .is))
+      go (not-read q k) = y ∙ after-refused (h .number) (h .place) words (signOf set text) k ∙ ap (λ q. verdictBy q (signOf set text)) (sym q)
+      go (was-read q x z w) =
+          let held = query-held z in
+          y ∙ ap (λ k. verdictAfter k (h .place) words (signOf set text)) z ∙ held .same (signOf set text) ∙ ap (λ q. verdictBy q (signOf set text)) (sym (held .is))

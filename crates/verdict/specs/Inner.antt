@@ -1,5 +1,5 @@
 -- What the inner functions of the verdict promise of a query that lies in lent words.
-use Prim.Native.Nat.{ℕ}
+use Prim.Native.Nat.{ℕ, zero, suc}
 use mathlib.Core.List.{List}
 use Rattle.grammar.specs.Sign.{Meaning}
 use Rattle.token.specs.Result.{Result, refusal, done}
@@ -13,6 +13,11 @@ use Rattle.verdict.specs.Verdict.{refusedAs}
 unfoldable pub verdictOnWords : List ℕ → Result Meaning → Verdict
 verdictOnWords words (refusal number place) = refusedAs number place
 verdictOnWords words (done m) = answered (verdictWords words (m .prefix) (m .symbols))
+
+-- the same after reading the query was answered with a number and a place
+abbrev pub verdictAfter : ℕ → ℕ → List ℕ → Result Meaning → Verdict
+verdictAfter zero place words sign = verdictOnWords words sign
+verdictAfter (suc n) place words sign = refusedAs (suc n) place
 
 -- its number, and whether the query is met
 abbrev pub meetingOf : Verdict → Meeting

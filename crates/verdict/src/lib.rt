@@ -1,8 +1,9 @@
 // The verdict of a query on a sign, both as texts.
 ghost use mathlib.Core.Path.{_≡_};
-ghost use lib.ListN.{length};
-ghost use Rattle.query.specs.Inner.{Blank, Fits};
+ghost use Rattle.reader.specs.Signs.{signOf};
+ghost use Rattle.matching.specs.Inner.{Laid};
 ghost use Rattle.verdict.specs.Verdict.{verdictIn};
+ghost use Rattle.verdict.specs.Inner.{verdictAfter};
 use charset::Charset;
 use matching::Verdict;
 use querygrammar::Edition;
@@ -16,21 +17,19 @@ const SHORT_QUERY: usize = 64;
 
 const SHORT_WORDS: usize = 121;
 
-// The verdict, with words in which the query has room.
-fn verdict_with(
+// The verdict by a query that was answered with a number and a place when it was read into words.
+fn verdict_by<'a>(
     set: Charset,
-    edition: Edition,
-    query: &[u8],
-    text: &[u8],
-    words: &mut [u16],
+    text: &'a [u8],
+    number: u8,
+    place: usize,
+    words: &'a [u16],
 ) -> Verdict
-    requires { ⌜ Blank (now words) × Fits edition (now query) (length (now words)) ⌝ }
-    ensures { λ r. ⌜ r ≡ verdictIn set (edition, now (query .entry)) (now (text .entry)) ⌝ }
+    requires { ⌜ (number ≡ 0 → Laid (now words)) ⌝ }
+    ensures { λ r. ⌜ r ≡ verdictAfter number place (now (words .entry)) (signOf set (now (text .entry))) ⌝ }
 {
-    let q = query::words::read_into(edition, query, words);
-    let number = q.number;
     if number != DONE {
-        return judging::refused(number, q.place);
+        return judging::refused(number, place);
     }
     judging::judge_text(set, text, words)
 }
@@ -42,8 +41,10 @@ pub fn verdict(set: Charset, edition: Edition, query: &[u8], text: &[u8]) -> Ver
 {
     if query.len() <= SHORT_QUERY {
         let mut words = [0u16; SHORT_WORDS];
-        return verdict_with(set, edition, query, text, &mut words);
+        let q = query::words::read_into(edition, query, &mut words);
+        return verdict_by(set, text, q.number, q.place, &words);
     }
     let mut words = [0u16; WORDS];
-    verdict_with(set, edition, query, text, &mut words)
+    let q = query::words::read_into(edition, query, &mut words);
+    verdict_by(set, text, q.number, q.place, &words)
 }
