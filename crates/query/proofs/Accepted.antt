@@ -9,6 +9,7 @@ use lib.Dec.{leb}
 use lib.ListN.{length}
 use borrow.Author.Tests.{leb-true}
 use Rattle.format.specs.Format.{Format, All, Any, every}
+use Rattle.format.specs.Places.{fine}
 use Rattle.format.proofs.Lists.{all-map, all-weaker, every-all}
 use Rattle.charset.specs.declared.Charset.the-variants.{Fsw, Swu}
 use Rattle.grammar.specs.Sign.{Number}
@@ -71,45 +72,77 @@ point-valid First p ok = ok
 point-valid (Second Fsw) p ok = ok
 point-valid (Second Swu) p ok = ok
 
-module _ (e : Edition) where
+-- what holds of every item that is written holds of every item of the query
+module _ (e : Edition) (P : Bool → Item → Type 0)
+    (each : (boxed : Bool) (v : spelling e .Says) → itemOf (spelling e) boxed .Valid v → P boxed (spelling e .means v)) where
   abbrev s : Spelling
   s = spelling e
 
-  list-valid : (boxed : Bool) (v : ListText (s .Says)) → list (s .joins) (itemOf s boxed) .Valid v → All ValidItem (alternativesOf (s .means) v)
-  list-valid boxed v ok =
+  pub list-holds : (boxed : Bool) (v : ListText (s .Says)) → list (s .joins) (itemOf s boxed) .Valid v → All (P boxed) (alternativesOf (s .means) v)
+  list-holds boxed v ok =
       let f = itemOf s boxed in
-      (item-valid e boxed (v .0) (ok .0), all-mapped (f .Valid) ValidItem (s .means) (item-valid e boxed) (v .1) (others-valid f (s .joins) (v .1) (ok .1)))
+      (each boxed (v .0) (ok .0), all-mapped (f .Valid) (P boxed) (s .means) (each boxed) (v .1) (others-valid f (s .joins) (v .1) (ok .1)))
 
-  sought-valid : (v : SoughtText (s .Says)) → signboxList s .Valid v → ValidSought (soughtOf (s .means) v)
-  sought-valid (l, none) ok = (list-valid true l (ok .0), tt)
-  sought-valid (l, some p) ok = (list-valid true l (ok .0), point-valid e p (ok .1))
+  pub prefix-holds : (h : Option (HeadText (s .Says))) → Any (head s .Valid) h → All (All (P false)) (listsOf (prefixOf (s .means) h))
+  prefix-holds none ok = tt
+  prefix-holds (some (inl t)) ok = tt
+  prefix-holds (some (inr p)) ok =
+      (list-holds false (p .0 .0) (ok .0 .0), all-mapped (prefixList s .Valid) (All (P false)) (alternativesOf (s .means)) (list-holds false) (p .0 .1) (ok .0 .1))
 
-  prefix-valid : (h : Option (HeadText (s .Says))) → Any (head s .Valid) h → All (All ValidItem) (listsOf (prefixOf (s .means) h))
-  prefix-valid none ok = tt
-  prefix-valid (some (inl t)) ok = tt
-  prefix-valid (some (inr p)) ok =
-      (list-valid false (p .0 .0) (ok .0 .0), all-mapped (prefixList s .Valid) (All ValidItem) (alternativesOf (s .means)) (list-valid false) (p .0 .1) (ok .0 .1))
+  pub signbox-holds : (l : List (SoughtText (s .Says))) → All (signboxList s .Valid) l → All (All (P true)) (map (λ s. s .alternatives) (map (soughtOf (s .means)) l))
+  signbox-holds l ok =
+      all-map (All (P true)) (λ s. s .alternatives) (map (soughtOf (s .means)) l)
+      (all-mapped (signboxList s .Valid) (λ q. All (P true) (q .alternatives)) (soughtOf (s .means)) (λ v k. list-holds true (v .0) (k .0)) l ok)
 
-  query-valid : (t : Text e) → query s .Valid t → ValidQuery (meaning (s .means) t)
-  query-valid t ok = record { prefix = prefix-valid (t .0) (ok .0); items = all-mapped (signboxList s .Valid) ValidSought (soughtOf (s .means)) sought-valid (t .1 .0) (ok .1 .0) }
+module _ (e : Edition) where
+  abbrev Valid : Bool → Item → Type 0
+  Valid boxed = ValidItem
+
+  sought-valid : (v : SoughtText (spelling e .Says)) → signboxList (spelling e) .Valid v → ValidSought (soughtOf (spelling e .means) v)
+  sought-valid (l, none) ok = (list-holds e Valid (item-valid e) true l (ok .0), tt)
+  sought-valid (l, some p) ok = (list-holds e Valid (item-valid e) true l (ok .0), point-valid e p (ok .1))
+
+  query-valid : (t : Text e) → query (spelling e) .Valid t → ValidQuery (meaning (spelling e .means) t)
+  query-valid t ok = record {
+    prefix = prefix-holds e Valid (item-valid e) (t .0) (ok .0);
+    items = all-mapped (signboxList (spelling e) .Valid) ValidSought (soughtOf (spelling e .means)) sought-valid (t .1 .0) (ok .1 .0);
+  }
 
 -- ALL OF IT
 
 few-all : (l : List (List Item)) → every few l ≡ true → Few l
 few-all l e = all-weaker (λ a. few a ≡ true) (λ a. length a ≤ 8) (λ a k. leb-true (length a) 8 k) l (every-all few l e)
 
-pub query-accepted : (e : Edition) (text : List ℕ) (q : Query) → queryOf e text ≡ done q → Accepted q
+-- the text of a query that was accepted
+pub record Read (e : Edition) (text : List ℕ) (q : Query) : Type 0 where
+  pub says : Text e
+  pub is : readQuery e text ≡ fine says
+  pub valid : query (spelling e) .Valid says
+  pub passed : Passed (meaning (spelling e .means) says) q
+
+pub query-read : (e : Edition) (text : List ℕ) (q : Query) → queryOf e text ≡ done q → Read e text q
 unfolding queryOf
-query-accepted e text q z =
+query-read e text q z =
     let d = andThen-done (ofOutcome (length text) (readQuery e text)) _ z in
     let t = d .0 in
-    let m = meaning (spelling e .means) t in
-    let p = limited-passed m q (firstReversed (spotsOf (spelling e) t)) (d .1 .1) in
+    let is = outcome-done (length text) (readQuery e text) t (d .1 .0) in
+    record {
+      says = t;
+      is = is;
+      valid = query-laws e .writes text t is .0;
+      passed = limited-passed (meaning (spelling e .means) t) q (firstReversed (spotsOf (spelling e) t)) (d .1 .1);
+    }
+
+pub query-accepted : (e : Edition) (text : List ℕ) (q : Query) → queryOf e text ≡ done q → Accepted q
+query-accepted e text q z =
+    let k = query-read e text q z in
+    let m = meaning (spelling e .means) (k .says) in
+    let p = k .passed in
     let a = few-all (listsOf (m .prefix)) (p .prefix-few) in
     let b = few-all (soughtLists m) (p .items-few) in
     rw (← p .same)
     (record {
-      valid = query-valid e t (query-laws e .writes text t (outcome-done (length text) (readQuery e text) t (d .1 .0)) .0);
+      valid = query-valid e (k .says) (k .valid);
       prefix-most = p .prefix-most;
       items-most = p .items-most;
       alternatives-most = (a, b);

@@ -10,8 +10,7 @@ use native.Mathlib.Omega.{arith}
 use Rattle.format.specs.Format.{every}
 use Rattle.token.specs.Refusal.{prefixLong, signboxLong, alternativesLong, rangeReversed}
 use Rattle.token.specs.Result.{Result, refusal, done, ofOutcome}
-use Rattle.token.proofs.Checks.{Counted, done-counted, refusal-counted, check-counted, andThen-counted, outcome-counted, andThen-done}
-use Rattle.token.proofs.Results.{outcome-done}
+use Rattle.token.proofs.Checks.{Counted, done-counted, refusal-counted, check-counted, andThen-counted, outcome-counted}
 use Rattle.token.specs.Padded.{padded, zeros}
 use Rattle.querygrammar.specs.declared.Edition.{Edition}
 use Rattle.querygrammar.specs.Spelling.{spelling}
@@ -24,7 +23,7 @@ use Rattle.querypart.specs.Inner.{few}
 use Rattle.query.specs.declared.words.Head.{Head}
 use Rattle.query.specs.Reading.{spotsOf, inOrder, limited, queryOf, readingOf}
 use Rattle.query.specs.Inner.{headOf, ReadInto}
-use Rattle.query.proofs.Accepted.{limited-passed, query-accepted}
+use Rattle.query.proofs.Accepted.{query-read, query-accepted}
 
 -- no refusal has the number 0
 order-counted : (o : Option ℕ) (q : Query) → Counted (inOrder o q)
@@ -53,12 +52,7 @@ pub all-fit : (e : Edition) (s : List ℕ) → Fits e s wordCount
 all-fit e s q z = query-accepted e s q z .room
 
 pub short-fit : (e : Edition) (s : List ℕ) (n : ℕ) → 8 + 3 * length s + 2 * spare ≤ 2 * n → Fits e s n
-unfolding queryOf
-short-fit e s n h q z =
-    let d = andThen-done (ofOutcome (length s) (readQuery e s)) _ z in
-    let t = d .0 in
-    let p = limited-passed (meaning (spelling e .means) t) q (firstReversed (spotsOf (spelling e) t)) (d .1 .1) in
-    rw (← p .same) (omega (arith, h, text-size e s t (outcome-done (length s) (readQuery e s) t (d .1 .0))))
+short-fit e s n h q z = let k = query-read e s q z in rw (← k .passed .same) (omega (arith, h, text-size e s (k .says) (k .is)))
 
 module _ (e : Edition) (s : List ℕ) (n : ℕ) (fits : Fits e s n) (h : Head) (words : List ℕ) (v : ReadInto e s n h words) where
   pub data Known : Type 0 where

@@ -1,6 +1,7 @@
 pub mod Accepted
 pub mod Putting
 pub mod Tails
+pub mod Nulls
 pub mod Openings
 pub mod Texts
 pub mod Prefixes

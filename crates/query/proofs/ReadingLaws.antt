@@ -31,6 +31,7 @@ use Rattle.query.specs.Reading.{headSpots, spotsOf, inOrder, limited, qu
 use Rattle.query.specs.ReadingLaws.{Stands, FirstReversed, joined, ReadingLaws}
 use Rattle.query.proofs.Answers.{query-counted}
 use Rattle.query.proofs.Accepted.{query-accepted}
+use Rattle.query.proofs.Nulls.{signbox-without-null}
 
 -- what stands after the first part of what stands at an offset
 onward : (text x y : List ℕ) (at : ℕ) → drop at text ≡ x ++ y → drop (at + length x) text ≡ y
@@ -242,6 +243,7 @@ module _ (e : Edition) where
     done-place = λ text z. place-zero (queryOf e text) (query-counted e text) z;
     counted = λ text number place q z. omega (arith, query-counted e text number place q, z);
     accepted = query-accepted e;
+    signbox-null = signbox-without-null e;
     items = spots-items (spelling e);
     stand = stand;
     reversed-at = reversed-at;

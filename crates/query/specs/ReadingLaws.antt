@@ -13,7 +13,7 @@ use Rattle.token.specs.Refusal.{rangeReversed}
 use Rattle.token.specs.Result.{refusal, done}
 use Rattle.querygrammar.specs.declared.Edition.{Edition}
 use Rattle.querygrammar.specs.declared.Edition.the-variants.{First, Second}
-use Rattle.querygrammar.specs.Spelling.{rangeItem, Spelling, first, spelling}
+use Rattle.querygrammar.specs.Spelling.{Item, rangeItem, nullItem, Spelling, first, spelling}
 use Rattle.querygrammar.specs.Query.{Query, query, meaning, listsOf, soughtLists, ValidQuery}
 use Rattle.querygrammar.specs.QueryLaws.{Text, readQuery}
 use Rattle.queryitem.specs.Words.{spare, wordCount, wordsOf}
@@ -27,6 +27,13 @@ pub record Accepted (q : Query) : Type 0 where
   pub items-most : length (q .items) ≤ 32
   pub alternatives-most : All (λ l. length l ≤ 8) (listsOf (q .prefix)) × All (λ l. length l ≤ 8) (soughtLists q)
   pub room : length (wordsOf q) + spare ≤ wordCount
+
+-- no item is null
+abbrev pub Other : Item → Type 0
+Other item = item ≡ nullItem → ⊥
+
+abbrev pub NoNull : List (List Item) → Type 0
+NoNull = All (All Other)
 
 -- an item is written at an offset of a text, as one of the prefix or one of the signbox
 pub record Stands (s : Spelling) (text : List ℕ) (spot : Spot) : Type 0 where
@@ -58,6 +65,8 @@ pub record ReadingLaws (e : Edition) : Type 0 where
   -- no refusal has the number 0
   pub counted : (text : List ℕ) (number place : ℕ) → queryOf e text ≡ refusal number place → number ≡ 0 → ⊥
   pub accepted : (text : List ℕ) (q : Query) → queryOf e text ≡ done q → Accepted q
+  -- null is not sought in the signbox
+  pub signbox-null : (text : List ℕ) (q : Query) → queryOf e text ≡ done q → NoNull (soughtLists q)
   -- the spots of a text that is well-formed are all its items in order, and each is written at its offset
   pub items : (t : Text e) → map (λ spot. spot .1) (spotsOf (spelling e) t)
       ≡ joined (listsOf (meaning (spelling e .means) t .prefix)) ++ joined (soughtLists (meaning (spelling e .means) t))
@@ -69,3 +78,7 @@ pub record ReadingLaws (e : Edition) : Type 0 where
 -- A text that is well-formed in the first edition is read in the second as FSW with the same refusal, or as the same query.
 abbrev pub FirstInSecond : Type 0
 FirstInSecond = (text : List ℕ) → Formed (query first) text → queryOf First text ≡ queryOf (Second Fsw) text
+
+-- the first edition does not seek null in the prefix either
+abbrev pub FirstWithoutNull : Type 0
+FirstWithoutNull = (text : List ℕ) (q : Query) → queryOf First text ≡ done q → NoNull (listsOf (q .prefix))

@@ -1,12 +1,12 @@
 -- An item in each edition of FSW, and what a caller knows of what it is answered.
 use Prim.Native.Nat.{ℕ, _≤_}
 use mathlib.Core.List.{List}
-use mathlib.Core.Path.{_≡_, refl, sym, ap}
-use mathlib.Core.Bool.{Bool, true, false}
+use mathlib.Core.Path.{_≡_, refl, sym}
+use mathlib.Core.Bool.{Bool, true, false, true≢false}
 use mathlib.Core.Option.{Option}
 use lib.ListN.{length}
 use native.Mathlib.Omega.{arith}
-use Rattle.format.specs.Format.{choose, optional}
+use Rattle.format.specs.Format.{optional}
 use Rattle.format.specs.Located.{Located, found, wrongAt, shortHere, locate, onFound}
 use Rattle.charset.specs.declared.Charset.the-variants.{Fsw, Swu}
 use Rattle.token.specs.Result.{ofLocated}
@@ -24,21 +24,18 @@ use Rattle.queryitem.specs.declared.coordinate.Place.the-variants as pla
 use Rattle.queryitem.specs.Numbers.{numbersOf, xOf, yOf}
 use Rattle.queryitem.specs.Pieces.{toldPiece, pieceAt, fswAt, swuAt, itemOf, inSwu, hasNull, leastOf, itemAt, toldPlace, coordinateAt, pieceResult, placeResult, PieceResult, PlaceResult}
 
-true-false : true ≡ false → ⊥
-true-false e = let z : _≡_ {A = ℕ} 0 1 = ap (λ t. choose t 0 1) e in omega arith
-
 pub item-fsw : (e : Edition) (boxed : Bool) (s : List ℕ) (at : ℕ) (r : Piece) → inSwu e ≡ false → r ≡ fswAt (hasNull e boxed) s at → r ≡ itemAt e boxed s at
 unfolding itemAt
 item-fsw First true s at r n q = q
 item-fsw First false s at r n q = q
 item-fsw (Second Fsw) true s at r n q = q
 item-fsw (Second Fsw) false s at r n q = q
-item-fsw (Second Swu) boxed s at r n q = absurd (true-false n)
+item-fsw (Second Swu) boxed s at r n q = absurd (true≢false n)
 
 pub item-swu : (e : Edition) (boxed : Bool) (s : List ℕ) (at : ℕ) (r : Piece) → inSwu e ≡ true → r ≡ swuAt (leastOf boxed) s at → r ≡ itemAt e boxed s at
 unfolding itemAt
-item-swu First boxed s at r y q = absurd (true-false (sym y))
-item-swu (Second Fsw) boxed s at r y q = absurd (true-false (sym y))
+item-swu First boxed s at r y q = absurd (true≢false (sym y))
+item-swu (Second Fsw) boxed s at r y q = absurd (true≢false (sym y))
 item-swu (Second Swu) true s at r y q = q
 item-swu (Second Swu) false s at r y q = q
 

@@ -26,7 +26,7 @@ fn number_at(s: &[u8], at: usize, edition: Edition) -> Token
         Edition::First => token::reading::number_at(Charset::Fsw, s, at),
         Edition::Second(set) => match set {
             Charset::Fsw => token::reading::number_at(Charset::Fsw, s, at),
-            Charset::Swu => scalar::number_at(s, at),
+            Charset::Swu => scalar::reading::number_at(s, at),
         },
     }
 }
@@ -40,7 +40,7 @@ fn second_at(s: &[u8], at: usize, edition: Edition) -> Token
         Edition::First => token::reading::second_at(Charset::Fsw, s, at),
         Edition::Second(set) => match set {
             Charset::Fsw => token::reading::second_at(Charset::Fsw, s, at),
-            Charset::Swu => scalar::number_at(s, at),
+            Charset::Swu => scalar::reading::number_at(s, at),
         },
     }
 }

@@ -85,11 +85,11 @@ fn swu_range_at(s: &[u8], at: usize) -> Piece
     let Token::Value(_) = letter else {
         return failed(letter);
     };
-    let first = scalar::symbol_at(s, at + 1, 1);
+    let first = scalar::reading::symbol_at(s, at + 1, 1);
     let Token::Value(from) = first else {
         return failed(first);
     };
-    let last = scalar::symbol_at(s, at + 5, 1);
+    let last = scalar::reading::symbol_at(s, at + 5, 1);
     let Token::Value(to) = last else {
         return failed(last);
     };
@@ -107,7 +107,7 @@ pub fn swu_item_at(s: &[u8], at: usize, least: u16) -> Piece
     if s[at] == b'R' {
         return swu_range_at(s, at);
     }
-    let symbol = scalar::symbol_at(s, at, least);
+    let symbol = scalar::reading::symbol_at(s, at, least);
     let Token::Value(code) = symbol else {
         return failed(symbol);
     };

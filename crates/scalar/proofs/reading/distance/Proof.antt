@@ -1,8 +1,8 @@
 use native.Mathlib.Omega.{arith}
 use borrow.Author.Needs.{needs}
 use borrow.Author.Tests.{lt-ltb, le-ltb}
-use Rattle.scalar.proofs.distance.Statement.{statement}
-use Rattle.scalar.proofs.distance.Tie as tie
+use Rattle.scalar.proofs.reading.distance.Statement.{statement}
+use Rattle.scalar.proofs.reading.distance.Tie as tie
 
 add-result : tie.Need-add-result
 add-result c = search needs

@@ -3,8 +3,8 @@ use Prim.Native.Nat.{_+_}
 use borrow.Author.Needs.{needs}
 use Rattle.token.proofs.Units.{byte-cut, byte-below, byte-above, byte-within}
 use Rattle.querygrammar.specs.Scalar.{distance}
-use Rattle.scalar.proofs.shifted_at.Statement.{statement}
-use Rattle.scalar.proofs.shifted_at.Tie as tie
+use Rattle.scalar.proofs.reading.shifted_at.Statement.{statement}
+use Rattle.scalar.proofs.reading.shifted_at.Tie as tie
 
 returns : tie.Need-returns
 returns c = byte-cut (distance _ _) (λ d. (_ + d) ∷ []) _ _ _ _ (c .if1 .taken)

@@ -4,8 +4,8 @@ use denote.Ref.{now}
 use borrow.Author.Needs.{needs}
 use Rattle.scalar.proofs.Characters.{lead-fails}
 use Rattle.scalar.proofs.Numbers.{Number, next-fails, number}
-use Rattle.scalar.proofs.number_at.Statement.{statement}
-use Rattle.scalar.proofs.number_at.Tie as tie
+use Rattle.scalar.proofs.reading.number_at.Statement.{statement}
+use Rattle.scalar.proofs.reading.number_at.Tie as tie
 
 shifted-at-requires : tie.Need-shifted-at-requires
 shifted-at-requires c κs = search needs

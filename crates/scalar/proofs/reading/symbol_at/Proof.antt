@@ -2,8 +2,8 @@ use mathlib.Core.Path.{refl}
 use native.Mathlib.Omega.{arith}
 use borrow.Author.Needs.{needs}
 use Rattle.scalar.proofs.Characters.{lead-fails, others-all}
-use Rattle.scalar.proofs.symbol_at.Statement.{statement}
-use Rattle.scalar.proofs.symbol_at.Tie as tie
+use Rattle.scalar.proofs.reading.symbol_at.Statement.{statement}
+use Rattle.scalar.proofs.reading.symbol_at.Tie as tie
 
 shifted-at-requires : tie.Need-shifted-at-requires
 shifted-at-requires c κs = search needs
@@ -22,7 +22,7 @@ three-at-requires c κs = search needs
 
 returns-2 : tie.Need-returns-2
 returns-2 c =
-    others-all 0x40000 _ 62592 1 (omega arith) refl (omega arith) _ _ _ _ (c .before .before .before .shifted-at .ensures) (c .before .enum-told .given .1)
+    others-all 0x40000 (c .before .before .before .before .before .args .first) 62592 1 (omega arith) refl (omega arith) _ _ _ _ (c .before .before .before .shifted-at .ensures) (c .before .enum-told .given .1)
     _ _ (omega arith) refl _ (c .three-at .ensures) refl
 
 pub symbol-at-spec : {M : Type 1} → statement M
