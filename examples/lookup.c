@@ -2,8 +2,8 @@
  * lookup DICTIONARY QUERY: prints the signs of an FSW dictionary that meet a query, each with its
  * number.
  *
- * It shows the whole way of a caller: open, narrow, fetch, and what to do with a refusal. The exit
- * status is 0 if the search was made, 1 if the library refused it and 2 if it could not be made.
+ * It shows the whole way of a caller: search, fetch, and what to do with a refusal. The exit status
+ * is 0 if the search was made, 1 if the library refused it and 2 if it could not be made.
  */
 #include "halofret.h"
 
@@ -21,7 +21,6 @@ static const char *reason(uint64_t number)
     case HALOFRET_SIGNBOX_LONG: return "the query has over 32 signbox items";
     case HALOFRET_RANGE_REVERSED: return "a range of the query ends below its start there";
     case HALOFRET_ROOM_SHORT: return "the list is too short; this many entries are needed";
-    case HALOFRET_LIST_WRONG: return "the list does not rise within the dictionary";
     case HALOFRET_DICTIONARY_UNENDED: return "the dictionary's last line is not ended";
     case HALOFRET_LINE_WRONG: return "this line of the dictionary is not a sign";
     case HALOFRET_TOO_MANY: return "the dictionary has over 65,535 lines";
@@ -91,15 +90,12 @@ static int print_entries(const uint8_t *dictionary, size_t length, const uint16_
 static int look_up(const uint8_t *dictionary, size_t length, uint16_t *list, size_t room,
                    const char *query)
 {
-    uint64_t opened[HALOFRET_OPEN_ANSWER], narrowed[HALOFRET_NARROW_ANSWER];
-    halofret_open(false, dictionary, length, list, room, opened);
-    if (opened[0] != HALOFRET_DONE)
-        return refused("open", opened[0], opened[1]);
-    halofret_narrow(false, dictionary, length, list, room, (size_t)opened[2], false, false,
-                    (const uint8_t *)query, strlen(query), narrowed);
-    if (narrowed[0] != HALOFRET_DONE)
-        return refused("narrow", narrowed[0], narrowed[1]);
-    return print_entries(dictionary, length, list, (size_t)narrowed[2]);
+    uint64_t answer[HALOFRET_SEARCH_ANSWER];
+    halofret_search(false, dictionary, length, list, room, false, false, (const uint8_t *)query,
+                    strlen(query), answer);
+    if (answer[0] != HALOFRET_DONE)
+        return refused("search", answer[0], answer[1]);
+    return print_entries(dictionary, length, list, (size_t)answer[3]);
 }
 
 int main(int argc, char **argv)

@@ -21,8 +21,8 @@
  * Memory. Lent buffers must not overlap. A pointer that goes with a length or a room of 0 may be
  * null; sign, styling, centre and answer must not be. No call keeps a pointer, takes memory or has
  * a state: calls on different memory may run at the same time, and any number may read the same
- * text, size list or dictionary. halofret_narrow needs 72 KB of stack below its caller,
- * halofret_write_styling 13 KB, every other function 6 KB.
+ * text, size list or dictionary. halofret_search and halofret_narrow need 24 KB of stack below
+ * their caller, halofret_write_styling 13 KB, every other function 6 KB.
  *
  * Time grows with the length of what is lent, in halofret_fetch with that of both dictionaries,
  * whichever line is asked for.
@@ -34,7 +34,7 @@
 #include <stddef.h>
 #include <stdint.h>
 
-#define HALOFRET_VERSION "0.4.0"
+#define HALOFRET_VERSION "0.5.0"
 
 #ifdef __cplusplus
 extern "C" {
@@ -102,7 +102,7 @@ enum {
     HALOFRET_BOXES_ANSWER = 19,
     HALOFRET_QUERY_ANSWER = 2,
     HALOFRET_VERDICT_ANSWER = 36,
-    HALOFRET_OPEN_ANSWER = 3,
+    HALOFRET_SEARCH_ANSWER = 4,
     HALOFRET_NARROW_ANSWER = 4,
     HALOFRET_FETCH_ANSWER = 4
 };
@@ -197,13 +197,18 @@ void halofret_verdict(bool swu, bool second, bool query_swu, const uint8_t *quer
                       size_t query_len, const uint8_t *text, size_t len,
                       uint64_t answer[HALOFRET_VERDICT_ANSWER]);
 
-/* Reads every line of a dictionary and writes 1 to the line count at the start of list; the count
- * in answer[2]. Room and place count entries. Refusals 12, 14, 13, 6. */
-void halofret_open(bool swu, const uint8_t *dict, size_t dict_len, uint16_t *list, size_t room,
-                   uint64_t answer[HALOFRET_OPEN_ANSWER]);
+/* Searches a dictionary: writes the numbers of the lines that meet the query at the start of list,
+ * rising, nothing changed beyond. Q finds every line: 1 to the line count. answer[2] is the line
+ * count, answer[3] how many entries were written. Room and the place of 6 count entries: what is
+ * found must fit, not the whole dictionary. Every line is read, whatever the query.
+ * Refusals 1, 2, 3, 4, 22, 5 of the query, then 12, 14, 13 for the first bad line, 6. */
+void halofret_search(bool swu, const uint8_t *dict, size_t dict_len, uint16_t *list, size_t room,
+                     bool second, bool query_swu, const uint8_t *query, size_t query_len,
+                     uint64_t answer[HALOFRET_SEARCH_ANSWER]);
 
 /* Narrows the first n entries of list to those that meet the query: they come first, rising, then
- * zeros to n, nothing changed beyond. answer[2] is how many were kept, answer[3] how many dropped.
+ * zeros to n, nothing changed beyond. n is how many a search wrote, or how many the last accepted
+ * narrowing kept. answer[2] is how many were kept, answer[3] how many dropped.
  * Refusals 1, 2, 3, 4, 22, 5 of the query, then 12, 14, 11, 13 for the first bad line listed. */
 void halofret_narrow(bool swu, const uint8_t *dict, size_t dict_len, uint16_t *list, size_t room,
                      size_t n, bool second, bool query_swu, const uint8_t *query, size_t query_len,

@@ -1,10 +1,12 @@
--- What fills the list before a run; opening.
+-- What fills the list before a run: searching (document 02, Q-10).
 use Prim.Native.Nat.{ℕ}
 use mathlib.Core.Path.{_≡_}
 use mathlib.Core.List.{List}
+use mathlib.Core.Bool.{Bool}
 use lib.ListN.{length}
-use Rattle.token.specs.Result.{Result, done, inRoom, output}
-use Rattle.narrowing.specs.Form.{Fill}
+use Rattle.format.specs.Format.{keep}
+use Rattle.token.specs.Result.{Result, done, andThen, inRoom, output}
+use Rattle.narrowing.specs.Form.{asks, Fill}
 use Rattle.books.specs.Book.{Book, entriesIn, checkedIn}
 
 -- A call that writes entries at the start of the list, changes nothing after them and refuses a list too short for them as 6 with the
@@ -18,6 +20,14 @@ fillBy number count entries start = record {
   start = start;
 }
 
--- opening writes 1 to the line count
+-- searching writes the entries that pass a query's test; refused as the query is, then as 12, 14, 13
+abbrev pub foundIn : Result (ℕ → Bool) → Book → Result (List ℕ)
+foundIn query b = andThen query λ test. checkedIn b (done (keep test (entriesIn b)))
+
+-- they are those that meet what it asks
+abbrev pub metIn : Result (ℕ → Bool) → Book → List ℕ
+metIn query b = keep (asks query) (entriesIn b)
+
+-- what opening writes by document 01: 1 to the line count
 abbrev pub openingIn : Book → Result (List ℕ)
 openingIn b = checkedIn b (done (entriesIn b))

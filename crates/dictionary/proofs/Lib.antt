@@ -1,2 +1,2 @@
-pub mod Openings
+pub mod Searches
 pub mod Narrowings

@@ -1,12 +1,13 @@
 -- What narrowing comes to in each case: one law for each return.
-use Prim.Native.Nat.{ℕ, _-_, _≤_, _<_}
-use mathlib.Core.Path.{_≡_, refl, sym, ap, _∙_}
-use mathlib.Core.List.{List}
-use mathlib.Core.Bool.{Bool, true, false, not}
+use Prim.Native.Nat.{ℕ, _/_, _-_, _≤_, _<_}
+use mathlib.Core.Path.{_≡_, refl, sym, ap, subst, _∙_}
+use mathlib.Core.List.{List, [], _∷_}
+use mathlib.Core.Bool.{Bool, true, false, not, _&&_}
 use native.Mathlib.Omega.{arith}
-use borrow.Author.Tests.{le-leb, not-true, not-false}
+use borrow.Author.Tests.{not-true, not-false}
 use lib.ListN.{length, take, drop, length-take}
 use Rattle.format.specs.Format.{All, keep}
+use Rattle.format.proofs.Lists.{all-weaker}
 use Rattle.charset.specs.declared.Charset.{Charset}
 use Rattle.token.specs.Refusal.{listWrong, lineWrong}
 use Rattle.token.specs.Result.{done, onDone}
@@ -18,19 +19,19 @@ use Rattle.query.proofs.Answers.{all-fit, Known, not-read, was-read, known}
 use Rattle.queryitem.specs.Words.{wordCount}
 use Rattle.verdict.proofs.Answers.{query-held}
 use Rattle.lines.specs.declared.checked.Counted.{Counted}
-use Rattle.lines.specs.Lines.{lines as linesOf, lineOf, fewLines}
+use Rattle.lines.specs.Lines.{lines as linesOf, lineOf}
 use Rattle.lines.specs.Checked.{lineCount, countedAs}
 use Rattle.lines.proofs.Counts.{count-whole, count-refused, count-done}
 use Rattle.narrowing.specs.declared.Narrowed.{Narrowed}
-use Rattle.narrowing.specs.Narrowing.{rising, listed, firstBad, notNarrowed, filled, narrowedBy}
+use Rattle.narrowing.specs.Narrowing.{upTo, rising, listed, firstBad, notNarrowed, filled, narrowedBy}
 use Rattle.narrowing.proofs.Calls.{query-refused, dictionary-refused, list-refused, line-refused, call-done}
-use Rattle.narrowing.proofs.Keeping.{keep-length}
+use Rattle.narrowing.proofs.Keeping.{keep-length, keep-agree, keep-passes}
 use Rattle.narrowing.proofs.Rising.{rising-within, listed-room, listed-valid}
-use Rattle.list.specs.Flags.{isMet, isSign, marked, judgedTo}
-use Rattle.list.proofs.Flags.{marked-length, judged-length}
-use Rattle.entries.specs.Entries.{readable}
-use Rattle.entries.specs.Judging.{meets, meetsWords, entryFlag}
-use Rattle.entries.proofs.Walk.{entries-inside, entries-wrong, entries-kept}
+use Rattle.list.specs.Bits.{bitOf, Lists}
+use Rattle.entries.specs.declared.finding.Found.{Found}
+use Rattle.entries.specs.Entries.{readable, firstWrong}
+use Rattle.entries.specs.Judging.{meets, meetsWords}
+use Rattle.entries.specs.Finding.{foundAs, foundIn, Kept}
 use Rattle.dictionary.specs.Narrowing.{testOf, narrowed}
 use Rattle.dictionary.specs.Inner.{narrowedWords}
 
@@ -50,64 +51,63 @@ module _ (set : Charset) (dict list : List ℕ) (n : ℕ) (words : List ℕ) whe
   by-11 c e z b l k r f =
       ap (λ x. (x, list)) f ∙ list-refused rising (readable set dict) list n refl (count-done dict c e z) (sym l ∙ not-true b k)
 
--- neither the dictionary nor the list is refused, and there is a flag for each entry
-pub record Ready (dict list : List ℕ) (n lines : ℕ) (before : List ℕ) : Type 0 where
+all-both : (P Q R : ℕ → Type 0) → ((e : ℕ) → P e → Q e → R e) → (l : List ℕ) → All P l → All Q l → All R l
+all-both P Q R f [] a b = tt
+all-both P Q R f (e ∷ l) a b = (f e (a .0) (b .0), all-both P Q R f l (a .1) (b .1))
+
+-- neither the dictionary nor the list is refused
+pub record Ready (dict list : List ℕ) (n lines : ℕ) : Type 0 where
   pub counted : lineCount dict ≡ done lines
-  pub room : lines < length before
-  pub listed : listed (rising lines) list n ≡ true
+  pub valid : listed (rising lines) list n ≡ true
 
-pub ready : (dict list : List ℕ) (n : ℕ) (c : Counted) (before : List ℕ) → c ≡ countedAs (lineCount dict) → c .number ≡ 0
-    → (fewLines dict ≡ true → length (linesOf dict) < length before) → (b : Bool) → b ≡ listed (rising (c .lines)) list n → not b ≡ false → Ready dict list n (c .lines) before
-ready dict list n c before e z room b l k =
-    let d = count-done dict c e z in
-    let w = count-whole dict (c .lines) d in
-    record {
-      counted = d;
-      room = omega (arith, room (le-leb (length (linesOf dict)) 65535 (omega (arith, w .few, w .lines))), w .lines);
-      listed = sym l ∙ not-false b k;
-    }
+pub ready : (dict list : List ℕ) (n : ℕ) (c : Counted) → c ≡ countedAs (lineCount dict) → c .number ≡ 0 → (b : Bool) → b ≡ listed (rising (c .lines)) list n → not b ≡ false
+    → Ready dict list n (c .lines)
+ready dict list n c e z b l k = record { counted = count-done dict c e z; valid = sym l ∙ not-false b k }
 
-module _ {dict list : List ℕ} {n lines : ℕ} {before : List ℕ} (x : Ready dict list n lines before) where
+module _ {dict list : List ℕ} {n lines : ℕ} (x : Ready dict list n lines) where
   pub ready-list : n ≤ length list
-  ready-list = listed-room (rising lines) list n (x .listed)
+  ready-list = listed-room (rising lines) list n (x .valid)
 
   pub ready-lines : lines ≡ length (linesOf dict)
   ready-lines = count-whole dict lines (x .counted) .lines
 
+  -- there is a bit for each entry
+  pub ready-bits : {m : ℕ} → m ≡ 8192 → lines / 8 < m
+  ready-bits e = omega (arith, count-whole dict lines (x .counted) .few)
+
   within : All (λ e. (0 < e) × (e ≤ lines)) (take n list)
-  within = rising-within lines (take n list) (listed-valid (rising lines) list n (x .listed))
+  within = rising-within lines (take n list) (listed-valid (rising lines) list n (x .valid))
 
-  pub ready-inside : All (λ e. e < length before) (take n list)
-  ready-inside = entries-inside before (take n list) lines within (x .room)
+  pub ready-inside : {m : ℕ} → m ≡ 8192 → All (λ e. e / 8 < m) (take n list)
+  ready-inside {m} s = let l = ready-bits s in all-weaker (λ e. (0 < e) × (e ≤ lines)) (λ e. e / 8 < m) (λ e h. omega (arith, h .1, l)) (take n list) within
 
-  pub marks-room : (marks : List ℕ) → marks ≡ marked (take n list) before → lines < length marks
-  marks-room marks m = omega (arith, x .room, ap length m, marked-length (take n list) before)
+  -- the listed entries are in a set, and those that meet the query in another
+  module _ (set : Charset) (words : List ℕ) {none marks : List ℕ} (m : Lists lines (take n list) none marks)
+      {found : Found} (f : found ≡ foundIn set dict (keep (bitOf marks) (upTo lines)) (meetsWords set dict words)) where
+    first : found .wrong ≡ firstBad (readable set dict) (take n list)
+    unfolding foundAs
+    first = ap (λ r. r .wrong) f ∙ ap (firstWrong set dict) (m .has)
 
-  -- the listed entries are marked and judged
-  module _ (set : Charset) (words : List ℕ) {marks flags : List ℕ} (m : marks ≡ marked (take n list) before) (j : flags ≡ judgedTo (entryFlag set dict words) lines marks) where
-    pub flags-long : length flags ≡ length before
-    flags-long = ap length j ∙ judged-length (entryFlag set dict words) marks lines ∙ ap length m ∙ marked-length (take n list) before
+    pub by-13 : (found .wrong ≡ 0 → ⊥) → (r : Narrowed) → r ≡ notNarrowed lineWrong (found .wrong) → (r, list) ≡ narrowedWords set dict list n words
+    unfolding narrowedWords
+    by-13 z r e = ap (λ x. (x, list)) e ∙ line-refused rising (readable set dict) list n refl (x .counted) (found .wrong) (x .valid) first z
 
-    pub flags-inside : All (λ e. e < length flags) (take n list)
-    flags-inside = rw flags-long ready-inside
+    module _ (z : found .wrong ≡ 0) {empty bits : List ℕ} (k : Kept (found .wrong) (bitOf marks) (meetsWords set dict words) lines empty bits) where
+      -- a listed entry is in the second set exactly if it meets the query
+      agree : (e : ℕ) → (0 < e) × (e ≤ lines) → bitOf marks e ≡ true → bitOf bits e ≡ meetsWords set dict words e
+      agree e h t = k .holds z .has e (h .0) (h .1) ∙ ap (λ b. b && meetsWords set dict words e) t
 
-    are : flags ≡ judgedTo (entryFlag set dict words) lines (marked (take n list) before)
-    are = j ∙ ap (judgedTo (entryFlag set dict words) lines) m
+      same : keep (bitOf bits) (take n list) ≡ keep (meetsWords set dict words) (take n list)
+      same =
+          keep-agree (bitOf bits) (meetsWords set dict words) (take n list)
+          (all-both (λ e. (0 < e) × (e ≤ lines)) (λ e. bitOf marks e ≡ true) (λ e. bitOf bits e ≡ meetsWords set dict words e) agree (take n list) within
+          (subst (All (λ e. bitOf marks e ≡ true)) (m .has) (keep-passes (bitOf marks) (upTo lines))))
 
-    module _ {wrong : ℕ} (w : wrong ≡ firstBad (isSign flags) (take n list)) where
-      first : wrong ≡ firstBad (readable set dict) (take n list)
-      first = w ∙ ap (λ f. firstBad (isSign f) (take n list)) are ∙ entries-wrong set dict words before (take n list) lines within (x .room)
-
-      pub by-13 : (wrong ≡ 0 → ⊥) → (r : Narrowed) → r ≡ notNarrowed lineWrong wrong → (r, list) ≡ narrowedWords set dict list n words
-      unfolding narrowedWords
-      by-13 z r f = ap (λ x. (x, list)) f ∙ line-refused rising (readable set dict) list n refl (x .counted) wrong (x .listed) first z
-
-      pub by-done : wrong ≡ 0 → (kept : ℕ) (after : List ℕ) → kept ≡ length (keep (isMet flags) (take n list)) → after ≡ filled n (keep (isMet flags) (take n list)) (drop n list)
+      pub by-done : (kept : ℕ) (after : List ℕ) → kept ≡ length (keep (bitOf bits) (take n list)) → after ≡ filled n (keep (bitOf bits) (take n list)) (drop n list)
           → (record { number = 0; place = 0; kept = kept; dropped = n - kept }, after) ≡ narrowedWords set dict list n words
       unfolding narrowedWords
-      by-done z kept after ek ea =
-          let same = ap (λ f. keep (isMet f) (take n list)) are ∙ entries-kept set dict words before (take n list) lines within (x .room) in
-          call-done rising (readable set dict) list n refl (x .counted) kept after (x .listed) (sym first ∙ z) (ek ∙ ap length same) (ea ∙ ap (λ e. filled n e (drop n list)) same)
+      by-done kept after ek ea =
+          call-done rising (readable set dict) list n refl (x .counted) kept after (x .valid) (sym first ∙ z) (ek ∙ ap length same) (ea ∙ ap (λ e. filled n e (drop n list)) same)
 
 -- WITH A QUERY AS TEXT
 module _ {e : Edition} {s : List ℕ} {h : Head} {words : List ℕ} (v : ReadInto e s wordCount h words) (set : Charset) (dict list : List ℕ) (n : ℕ) where

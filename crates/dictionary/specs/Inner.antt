@@ -1,8 +1,6 @@
 -- What narrowing by a query that lies in lent words promises.
 use Prim.Native.Nat.{ℕ}
-use mathlib.Core.Path.{_≡_}
 use mathlib.Core.List.{List}
-use lib.ListN.{length}
 use Rattle.charset.specs.declared.Charset.{Charset}
 use Rattle.token.specs.Result.{done}
 use Rattle.lines.specs.Checked.{lineCount}
@@ -13,7 +11,3 @@ use Rattle.entries.specs.Judging.{meetsWords}
 
 unfoldable pub narrowedWords : Charset → List ℕ → List ℕ → ℕ → List ℕ → Narrowed × List ℕ
 narrowedWords set dict list n words = narrowedBy (done (meetsWords set dict words)) (lineCount dict) rising (readable set dict) list n
-
--- Lent flags are working memory: there are as many after the call as before, and what they hold then is left free.
-abbrev pub Working : List ℕ → List ℕ → Type 0
-Working before after = length after ≡ length before

@@ -1,3 +1,4 @@
-pub mod Opening
 pub mod Narrowing
+pub mod Search
+pub mod SearchLaws
 pub mod Inner

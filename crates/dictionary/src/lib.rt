@@ -1,59 +1,39 @@
-// Dictionaries: opening one into a list of entry numbers, and narrowing the list.
+// Dictionaries: searching one into a list of entry numbers, and narrowing the list.
 ghost use mathlib.Core.Path.{_≡_};
 ghost use Rattle.token.specs.Result.{output};
-ghost use Rattle.dictionary.specs.Opening.{opening, opened};
+ghost use Rattle.dictionary.specs.Search.{found, searched};
 ghost use Rattle.dictionary.specs.Narrowing.{narrowed};
 use charset::Charset;
-use lines::checked::count_lines;
 use narrowing::Narrowed;
+use narrowing::not_narrowed;
 use querygrammar::Edition;
+use queryitem::words::WORDS;
+use searching::Searched;
+use searching::not_searched;
+use searching::words::search_by;
 use token::refusal::DONE;
-use token::refusal::LINE_WRONG;
-use token::refusal::ROOM_SHORT;
 
-pub mod lent;
+mod words;
 
-// What opening answers: the line count.
-pub struct Opened {
-    pub number: u8,
-    pub place: usize,
-    pub lines: usize,
-}
-
-fn not_opened(number: u8, place: usize) -> Opened
-    ensures { λ r. ⌜ r ≡ record { number = number; place = place; lines = 0 } ⌝ }
+// Writes the entries that meet the query at the start of the list, rising: refused as the query is, then as 12, 14, 13, then as 6 with
+// the room needed.
+pub fn search(
+    set: Charset,
+    dict: &[u8],
+    list: &mut [u16],
+    edition: Edition,
+    query: &[u8],
+) -> Searched
+    ensures answer { λ r. ⌜ r ≡ searched set (now (dict .entry)) (now (list .entry)) (edition, now (query .entry)) ⌝ }
+    ensures memory { λ r. ⌜ now (list .exit) ≡ output (now (list .entry)) (found set (now (dict .entry)) (edition, now (query .entry))) ⌝ }
 {
-    Opened {
-        number: number,
-        place: place,
-        lines: 0,
-    }
-}
-
-// Writes 1 to the line count at the start of the list: refused as 12, 14, 13, then 6.
-pub fn open(set: Charset, dict: &[u8], list: &mut [u16]) -> Opened
-    ensures answer { λ r. ⌜ r ≡ opened (now (list .entry)) (opening set (now (dict .entry))) ⌝ }
-    ensures memory { λ r. ⌜ now (list .exit) ≡ output (now (list .entry)) (opening set (now (dict .entry))) ⌝ }
-{
-    let counted = count_lines(dict);
-    let number = counted.number;
-    let n = counted.lines;
+    let mut words = [0u16; WORDS];
+    let q = query::words::read_into(edition, query, &mut words);
+    let number = q.number;
     if number != DONE {
-        return not_opened(number, 0);
+        return not_searched(number, q.place);
     }
-    let wrong = entries::reading::first_wrong(set, dict, n);
-    if wrong != 0 {
-        return not_opened(LINE_WRONG, wrong);
-    }
-    if list.len() < n {
-        return not_opened(ROOM_SHORT, n);
-    }
-    list::rising::number_entries(list, n);
-    Opened {
-        number: DONE,
-        place: 0,
-        lines: n,
-    }
+    search_by(set, dict, list, &words)
 }
 
 // Of the first n entries of the list, keeps those that meet the query in front, with zeros in the places after them up to n:
@@ -68,6 +48,11 @@ pub fn narrow(
 ) -> Narrowed
     ensures { λ r. ⌜ (r, now (list .exit)) ≡ narrowed set (now (dict .entry)) (now (list .entry)) n (edition, now (query .entry)) ⌝ }
 {
-    let mut flags = [0u8; 65536];
-    lent::narrow_with(set, dict, list, n, edition, query, &mut flags)
+    let mut words = [0u16; WORDS];
+    let q = query::words::read_into(edition, query, &mut words);
+    let number = q.number;
+    if number != DONE {
+        return not_narrowed(number, q.place);
+    }
+    words::narrow_by(set, dict, list, n, &words)
 }

@@ -1,17 +1,15 @@
--- Which entries of a dictionary meet a query, and the flags that judging gives them.
+-- Which entries of a dictionary meet a query.
 use Prim.Native.Nat.{ℕ}
 use mathlib.Core.List.{List}
-use mathlib.Core.Bool.{Bool}
+use mathlib.Core.Bool.{Bool, not, _&&_}
 use lib.Dec.{eqb}
-use Rattle.format.specs.Format.{choose}
 use Rattle.charset.specs.declared.Charset.{Charset}
 use Rattle.reader.specs.Signs.{signOf}
-use Rattle.querygrammar.specs.Query.{Query}
-use Rattle.verdict.specs.declared.judging.Meeting.{Meeting}
+use Rattle.querygrammar.specs.Query.{Query, present, kindOf}
+use Rattle.matching.specs.Inner.{word}
 use Rattle.verdict.specs.Verdict.{verdictOn}
-use Rattle.verdict.specs.Inner.{verdictOnWords, meetingOf}
+use Rattle.verdict.specs.Inner.{verdictOnWords}
 use Rattle.lines.specs.Lines.{lineOf}
-use Rattle.list.specs.Flags.{listedFlag, metFlag, noSignFlag}
 
 -- the verdict of the query on the sign that the entry's line reads as
 abbrev pub meets : Charset → List ℕ → Query → ℕ → Bool
@@ -21,12 +19,6 @@ meets set dict q e = verdictOn q (signOf set (lineOf dict e)) .met
 abbrev pub meetsWords : Charset → List ℕ → List ℕ → ℕ → Bool
 meetsWords set dict words e = verdictOnWords words (signOf set (lineOf dict e)) .met
 
--- the flag of a listed entry: its line is no sign, or meets the query, or does not
-unfoldable pub flagBy : Meeting → ℕ
-flagBy v = choose (eqb (v .number) 0) (choose (v .met) metFlag listedFlag) noSignFlag
-
-abbrev pub lineFlag : Charset → List ℕ → List ℕ → ℕ
-lineFlag set words line = flagBy (meetingOf (verdictOnWords words (signOf set line)))
-
-abbrev pub entryFlag : Charset → List ℕ → List ℕ → ℕ → ℕ
-entryFlag set dict words e = lineFlag set words (lineOf dict e)
+-- words of a query that has no condition: every sign meets it
+unfoldable pub asksNothing : List ℕ → Bool
+asksNothing words = not (eqb (word words 0) (kindOf present)) && (eqb (word words 1) 0 && eqb (word words 2) 0)

@@ -1,4 +1,4 @@
-// The entries of a dictionary: reading their lines, and judging them by a query.
+// The entries of a dictionary: reading their lines, and finding those that meet a query.
 
-pub mod judging;
+pub mod finding;
 pub mod reading;

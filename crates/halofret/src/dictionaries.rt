@@ -1,26 +1,35 @@
-// Dictionaries: opening one into a list of entry numbers, narrowing the list, and finding a line in two of them.
+// Dictionaries: searching one into a list of entry numbers, narrowing the list, and finding a line in two of them.
 ghost use mathlib.Core.Path.{_≡_};
 ghost use Rattle.token.specs.Result.{output};
-ghost use Rattle.dictionary.specs.Opening.{opening, opened};
+ghost use Rattle.dictionary.specs.Search.{found, searched};
 ghost use Rattle.dictionary.specs.Narrowing.{narrowed};
 ghost use Rattle.fetching.specs.Fetching.{fetching};
 ghost use Rattle.layout.specs.Layouts.{setOf, editionOf};
-ghost use Rattle.layout.specs.Dictionaries.{openedNumbers, narrowedNumbers, fetchedNumbers};
+ghost use Rattle.layout.specs.Dictionaries.{searchedNumbers, narrowedNumbers, fetchedNumbers};
 use layout::fetched::line_numbers;
 use layout::numbers::edition_of;
 use layout::numbers::narrowed_numbers;
-use layout::numbers::opened_numbers;
+use layout::numbers::searched_numbers;
 use layout::numbers::set_of;
 use lines::walk::count;
 use token::refusal::DONE;
 
-// Writes 1 to the line count at the start of the list.
+// Writes the entries that meet the query at the start of the list, rising.
 #[no_mangle]
-pub extern "C" fn halofret_open(swu: bool, dict: &[u8], list: &mut [u16], answer: &mut [u64; 3])
-    ensures answer { λ _. ⌜ now (answer .exit) ≡ openedNumbers (opened (now (list .entry)) (opening (setOf swu) (now (dict .entry)))) ⌝ }
-    ensures memory { λ _. ⌜ now (list .exit) ≡ output (now (list .entry)) (opening (setOf swu) (now (dict .entry))) ⌝ }
+pub extern "C" fn halofret_search(
+    swu: bool,
+    dict: &[u8],
+    list: &mut [u16],
+    second: bool,
+    query_swu: bool,
+    query: &[u8],
+    answer: &mut [u64; 4],
+)
+    ensures answer { λ _. ⌜ now (answer .exit) ≡ searchedNumbers (searched (setOf swu) (now (dict .entry)) (now (list .entry)) (editionOf second «query_swu», now (query .entry))) ⌝ }
+    ensures memory { λ _. ⌜ now (list .exit) ≡ output (now (list .entry)) (found (setOf swu) (now (dict .entry)) (editionOf second «query_swu», now (query .entry))) ⌝ }
 {
-    *answer = opened_numbers(dictionary::open(set_of(swu), dict, list));
+    let edition = edition_of(second, query_swu);
+    *answer = searched_numbers(dictionary::search(set_of(swu), dict, list, edition, query));
 }
 
 // Of the first n entries of the list, keeps those that meet the query in front, with zeros in the places after them up to n.

@@ -5,11 +5,11 @@ use lib.ListN.{length}
 use Rattle.token.specs.Result.{Result, refusal, done}
 use Rattle.lines.specs.Lines.{lineOf, lineStart}
 use Rattle.narrowing.specs.declared.Narrowed.{Narrowed}
-use Rattle.dictionary.specs.declared.Opened.{Opened}
+use Rattle.searching.specs.declared.Searched.{Searched}
 use Rattle.fetching.specs.Fetching.{Entry, inFirst, inSecond}
 
-abbrev pub openedNumbers : Opened → List ℕ
-openedNumbers o = o .number ∷ o .place ∷ o .lines ∷ []
+abbrev pub searchedNumbers : Searched → List ℕ
+searchedNumbers r = r .number ∷ r .place ∷ r .lines ∷ r .written ∷ []
 
 abbrev pub narrowedNumbers : Narrowed → List ℕ
 narrowedNumbers r = r .number ∷ r .place ∷ r .kept ∷ r .dropped ∷ []

@@ -1,11 +1,11 @@
 // The character set, and answers of a few numbers.
 ghost use mathlib.Core.Path.{_≡_};
 ghost use Rattle.layout.specs.Layouts.{setOf, editionOf, codeNumbers, writtenNumbers};
-ghost use Rattle.layout.specs.Dictionaries.{openedNumbers, narrowedNumbers};
+ghost use Rattle.layout.specs.Dictionaries.{searchedNumbers, narrowedNumbers};
 use charset::Charset;
-use dictionary::Opened;
 use narrowing::Narrowed;
 use querygrammar::Edition;
+use searching::Searched;
 use symbol::Code;
 use token::Written;
 
@@ -41,10 +41,15 @@ pub fn written_numbers(w: Written) -> [u64; 3]
     [w.number as u64, w.place as u64, w.length as u64]
 }
 
-pub fn opened_numbers(r: Opened) -> [u64; 3]
-    ensures { λ a. ⌜ a ≡ openedNumbers r ⌝ }
+pub fn searched_numbers(r: Searched) -> [u64; 4]
+    ensures { λ a. ⌜ a ≡ searchedNumbers r ⌝ }
 {
-    [r.number as u64, r.place as u64, r.lines as u64]
+    [
+        r.number as u64,
+        r.place as u64,
+        r.lines as u64,
+        r.written as u64,
+    ]
 }
 
 pub fn narrowed_numbers(r: Narrowed) -> [u64; 4]

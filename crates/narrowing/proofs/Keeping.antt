@@ -1,7 +1,7 @@
 -- Laws of `keep`.
 use Prim.Native.Nat.{suc, _≤_, zero-le}
 use mathlib.Core.Path.{_≡_, refl, ap}
-use mathlib.Core.List.{List, [], _∷_}
+use mathlib.Core.List.{List, [], _∷_, _++_}
 use mathlib.Core.Bool.{Bool, true, false, _&&_}
 use native.Mathlib.Omega.{arith}
 use lib.ListN.{length}
@@ -33,6 +33,23 @@ unfolding keep
 keep-every [] = refl
 keep-every (a ∷ l) = ap (λ k. a ∷ k) (keep-every l)
 
+-- what is kept of one element more
+pub keep-more : {A : Type 0} (test : A → Bool) (l : List A) (e : A) → keep test (l ++ (e ∷ [])) ≡ keep test l ++ choose (test e) (e ∷ []) []
+unfolding keep
+keep-more test [] e = refl
+keep-more test (a ∷ l) e = go (test a) (keep-more test l e)
+  where
+    go : (t : Bool) → keep test (l ++ (e ∷ [])) ≡ keep test l ++ choose (test e) (e ∷ []) []
+        → choose t (a ∷ keep test (l ++ (e ∷ []))) (keep test (l ++ (e ∷ []))) ≡ choose t (a ∷ keep test l) (keep test l) ++ choose (test e) (e ∷ []) []
+    go true h = ap (λ k. a ∷ k) h
+    go false h = h
+
+-- tests that agree on a list keep the same
+pub keep-agree : {A : Type 0} (p q : A → Bool) (l : List A) → All (λ a. p a ≡ q a) l → keep p l ≡ keep q l
+unfolding keep
+keep-agree p q [] h = refl
+keep-agree p q (a ∷ l) h = λ i. choose (h .0 i) (a ∷ keep-agree p q l (h .1) i) (keep-agree p q l (h .1) i)
+
 -- what holds of every element holds of those kept
 pub keep-all : {A : Type 0} (P : A → Type 0) (test : A → Bool) (l : List A) → All P l → All P (keep test l)
 unfolding keep
@@ -42,3 +59,13 @@ keep-all P test (a ∷ l) h = go (test a) (keep-all P test l (h .1))
     go : (t : Bool) → All P (keep test l) → All P (choose t (a ∷ keep test l) (keep test l))
     go true k = (h .0, k)
     go false k = k
+
+-- and what is kept passes
+pub keep-passes : {A : Type 0} (test : A → Bool) (l : List A) → All (λ a. test a ≡ true) (keep test l)
+unfolding keep
+keep-passes test [] = tt
+keep-passes test (a ∷ l) = go (test a) refl (keep-passes test l)
+  where
+    go : (t : Bool) → test a ≡ t → All (λ a. test a ≡ true) (keep test l) → All (λ a. test a ≡ true) (choose t (a ∷ keep test l) (keep test l))
+    go true e h = (e, h)
+    go false e h = h

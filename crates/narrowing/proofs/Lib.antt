@@ -3,3 +3,4 @@ pub mod Rising
 pub mod Filled
 pub mod Runs
 pub mod Calls
+pub mod Entries

@@ -1,5 +1,5 @@
 -- Laws of rising lists, of lists that pass a test, of 1 to n, and of the first bad line.
-use Prim.Native.Nat.{ℕ, zero, suc, _+_, _≤_, _<_}
+use Prim.Native.Nat.{ℕ, zero, suc, _+_, _-_, _≤_, _<_}
 use mathlib.Core.Path.{_≡_, refl, ap, _∙_}
 use mathlib.Core.List.{List, [], _∷_, _++_}
 use mathlib.Core.Bool.{Bool, true, false, _&&_, and-false, and-eq-true-iff}
@@ -7,7 +7,8 @@ use native.Mathlib.Omega.{arith}
 use borrow.Author.Tests.{ltb-true, leb-true, lt-ltb, le-ltb, le-leb, lt-leb}
 use lib.Dec.{ltb, leb}
 use lib.ListN.{length, take}
-use native.Mathlib.Nat.{add-zero}
+use native.Mathlib.Nat.{add-zero, zero-add, sub-zero}
+use native.Mathlib.Numerals.{add-one}
 use Rattle.format.specs.Format.{choose, All, keep}
 use Rattle.narrowing.specs.Narrowing.{entriesFrom, upTo, risingOver, rising, listed, firstBad}
 
@@ -113,6 +114,23 @@ upTo-rising zero = rising-end 0 0
 upTo-rising (suc n) =
     ap (rising (suc n)) (upTo-last n) ∙ rising-more 0 n (suc n) (suc n) (upTo n) (omega arith) (omega arith) (omega arith) (upTo-rising n)
 
+-- tests that agree on a list find the same first bad
+pub bad-agree : (p q : ℕ → Bool) (l : List ℕ) → All (λ e. p e ≡ q e) l → firstBad p l ≡ firstBad q l
+unfolding firstBad
+bad-agree p q [] a = refl
+bad-agree p q (e ∷ l) a = λ i. choose (a .0 i) (bad-agree p q l (a .1) i) e
+
+-- the first bad of those kept is the first that is kept and bad
+pub bad-keep : (p q : ℕ → Bool) (l : List ℕ) → firstBad p (keep q l) ≡ firstBad (λ e. choose (q e) (p e) true) l
+unfolding firstBad keep
+bad-keep p q [] = refl
+bad-keep p q (e ∷ l) = go (q e) (bad-keep p q l)
+  where
+    go : (t : Bool) → firstBad p (keep q l) ≡ firstBad (λ e. choose (q e) (p e) true) l
+        → firstBad p (choose t (e ∷ keep q l) (keep q l)) ≡ choose (choose t (p e) true) (firstBad (λ e. choose (q e) (p e) true) l) e
+    go true h = ap (λ b. choose (p e) b e) h
+    go false h = h
+
 -- no bad line, where all are readable, and the reverse for entries from 1
 pub none-bad : (readable : ℕ → Bool) (entries : List ℕ) → All (λ e. readable e ≡ true) entries → firstBad readable entries ≡ 0
 unfolding firstBad
@@ -129,3 +147,28 @@ all-readable readable last count (e ∷ entries) r z =
     go : (t : Bool) → readable e ≡ t → last < e → choose t (firstBad readable entries) e ≡ 0 → (firstBad readable entries ≡ 0 → All (λ e. readable e ≡ true) entries) → All (λ e. readable e ≡ true) (e ∷ entries)
     go true h a z k = (h, k z)
     go false h a z k = absurd (omega (arith, z))
+
+-- the first bad of 1 to n where i of them were seen and none was bad: w is the answer that is right
+pub bad-start : (readable : ℕ → Bool) (n : ℕ) → firstBad readable (entriesFrom (0 + 1) (n - 0)) ≡ firstBad readable (upTo n)
+bad-start readable n = rw (zero-add 1, sub-zero n)
+
+module _ (readable : ℕ → Bool) (i n w : ℕ) (e : firstBad readable (entriesFrom (i + 1) (n - i)) ≡ w) where
+  next-entry : i < n → entriesFrom (i + 1) (n - i) ≡ (i + 1) ∷ entriesFrom (i + 1 + 1) (n - (i + 1))
+  unfolding entriesFrom
+  next-entry h =
+      let s : n - i ≡ suc (n - (i + 1)) = omega arith in
+      rw (s, add-one (i + 1))
+
+  pub bad-here : i < n → readable (i + 1) ≡ false → i + 1 ≡ w
+  unfolding firstBad
+  bad-here h t = rw (next-entry h, t) at e
+
+  pub bad-later : i < n → readable (i + 1) ≡ true → firstBad readable (entriesFrom (i + 1 + 1) (n - (i + 1))) ≡ w
+  unfolding firstBad
+  bad-later h t = rw (next-entry h, t) at e
+
+  pub bad-none : n ≤ i → 0 ≡ w
+  unfolding firstBad entriesFrom
+  bad-none h =
+      let s : n - i ≡ 0 = omega arith in
+      rw s at e

@@ -1,9 +1,9 @@
--- The search program's whole output, from its whole input (document 01, "The search program").
+-- The search program's whole output, from its whole input (document 01, "The search program"; document 02, Q-10).
 use Prim.Native.Nat.{ℕ, suc, _≤_}
 use mathlib.Core.Path.{_≡_}
 use mathlib.Core.List.{List, _++_}
 use mathlib.Core.Bool.{Bool, _&&_}
-use lib.Dec.{eqb, leb}
+use lib.Dec.{leb}
 use lib.ListN.{length, take, drop}
 use Rattle.format.specs.Format.{choose}
 use Rattle.charset.specs.Bytes.{ascii}
@@ -12,9 +12,7 @@ use Rattle.token.specs.Refusal.{tooMany}
 use Rattle.token.specs.Result.{Result, refusal, done}
 use Rattle.querygrammar.specs.declared.Edition.the-variants.{First}
 use Rattle.lines.specs.Lines.{lines, firstLine}
-use Rattle.narrowing.specs.declared.Narrowed.{Narrowed}
-use Rattle.dictionary.specs.Opening.{opening}
-use Rattle.dictionary.specs.Narrowing.{narrowed}
+use Rattle.dictionary.specs.Search.{found}
 use Rattle.keylines.specs.Text.{keyLine, entryLines}
 
 -- the input's query: the bytes before the first byte 10, or all if there is none
@@ -32,23 +30,19 @@ within query dict = leb (length query) 1024 && (leb (length dict) 49152 && leb (
 unfoldable pub refusalText : ℕ → ℕ → List ℕ
 refusalText number place = keyLine (ascii "answer=") number ++ keyLine (ascii "place=") place
 
--- the line count, and the entries that were kept
+-- the line count, and the entries that were found
 unfoldable pub foundText : ℕ → List ℕ → List ℕ
 foundText n kept = keyLine (ascii "answer=") 0 ++ keyLine (ascii "entries=") n ++ keyLine (ascii "kept=") (length kept) ++ entryLines kept
 
--- what narrowing the n entries answered, and the list after it, of which it kept the first
-unfoldable pub narrowedText : ℕ → Narrowed × List ℕ → List ℕ
-narrowedText n (answer, list) =
-    choose (eqb (answer .number) 0) (foundText n (take (answer .kept) list)) (refusalText (answer .number) (answer .place))
+-- what a search of n lines came to
+unfoldable pub resultText : ℕ → Result (List ℕ) → List ℕ
+resultText n (refusal number place) = refusalText number place
+resultText n (done entries) = foundText n entries
 
--- what opening came to: its refusal, or the list to narrow, by a query of the first edition
-unfoldable pub openedText : List ℕ → List ℕ → Result (List ℕ) → List ℕ
-openedText query dict (refusal number place) = refusalText number place
-openedText query dict (done list) = narrowedText (length list) (narrowed Fsw dict list (length list) (First, query))
-
--- 14 before all else, then opening's refusals, then narrowing's
+-- 14 before all else, then what a search by a query of the first edition comes to: the query's refusals before the dictionary's
 unfoldable pub searchText : List ℕ → List ℕ → List ℕ
-searchText query dict = choose (within query dict) (openedText query dict (opening Fsw dict)) (refusalText tooMany 0)
+searchText query dict =
+    choose (within query dict) (resultText (length (lines dict)) (found Fsw dict (First, query))) (refusalText tooMany 0)
 
 -- the whole output
 unfoldable pub outputOf : List ℕ → List ℕ

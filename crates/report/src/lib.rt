@@ -42,7 +42,7 @@ fn put_refusal(out: &mut [u8], number: u8, place: usize) -> usize
     put_line(out, next, b"place=", place)
 }
 
-// The line count, and the entries that were kept.
+// The line count, and the entries that were found.
 fn put_found(out: &mut [u8], lines: usize, kept: &[u16]) -> usize
     requires { ⌜ (lines ≤ 1024) × (length (now kept) ≤ 1024) × (12320 ≤ length (now out)) ⌝ }
     ensures { λ r. ⌜ Wrote (now (out .entry)) (now (out .exit)) 0 r (foundText lines (now (kept .entry))) ⌝ }
@@ -53,35 +53,22 @@ fn put_found(out: &mut [u8], lines: usize, kept: &[u16]) -> usize
     put_entries(out, c, kept)
 }
 
-// The list and the flags are working memory.
-fn search(query: &[u8], dict: &[u8], list: &mut [u16], flags: &mut [u8], out: &mut [u8]) -> usize
-    requires { ⌜ (length (now list) ≡ 1024) × (length (now flags) ≡ 1025) × (length (now out) ≡ 12320) ⌝ }
+// The list is working memory, with room for every entry.
+fn search(query: &[u8], dict: &[u8], list: &mut [u16], out: &mut [u8]) -> usize
+    requires { ⌜ (length (now list) ≡ 1024) × (length (now out) ≡ 12320) ⌝ }
     ensures { λ r. ⌜ Wrote (now (out .entry)) (now (out .exit)) 0 r (searchText (now (query .entry)) (now (dict .entry))) ⌝ }
 {
     if !is_within(query, dict) {
         return put_refusal(out, TOO_MANY, 0);
     }
-    let opened = dictionary::open(Charset::Fsw, dict, list);
-    let lines = opened.lines;
-    let unopened = opened.number;
-    if unopened != DONE {
-        return put_refusal(out, unopened, opened.place);
+    let found = dictionary::search(Charset::Fsw, dict, list, Edition::First, query);
+    let lines = found.lines;
+    let written = found.written;
+    let number = found.number;
+    if number != DONE {
+        return put_refusal(out, number, found.place);
     }
-    let narrowed = dictionary::lent::narrow_with(
-        Charset::Fsw,
-        dict,
-        list,
-        lines,
-        Edition::First,
-        query,
-        flags,
-    );
-    let kept = narrowed.kept;
-    let refused = narrowed.number;
-    if refused != DONE {
-        return put_refusal(out, refused, narrowed.place);
-    }
-    put_found(out, lines, &list[..kept])
+    put_found(out, lines, &list[..written])
 }
 
 // Answers a query line and the dictionary after it, and returns the length of the text. 12,320 bytes hold any: 32 for the first
@@ -97,6 +84,5 @@ pub fn report(input: &[u8], out: &mut [u8; 12320]) -> usize
         start = end + 1;
     }
     let mut list = [0u16; 1024];
-    let mut flags = [0u8; 1025];
-    search(&input[..end], &input[start..], &mut list, &mut flags, out)
+    search(&input[..end], &input[start..], &mut list, out)
 }

@@ -1,7 +1,9 @@
 // Runs of narrowing calls over small dictionaries. After each run it writes what was answered and the list memory, seven places that
-// held 9 before. The file stdout is written from document 01, "The dictionary and its list", and document 02, Q-9.
+// held 9 before. The file stdout is written from document 01, "The dictionary and its list", and document 02, Q-9
+// and Q-10.
 use charset::Charset;
 use libc::STDOUT_FILENO;
+use querygrammar::Edition;
 use runs::run_queries;
 
 fn put(key: &[u8], n: usize) {
@@ -21,9 +23,9 @@ fn put_list(list: &[u16]) {
     }
 }
 
-fn run(title: &[u8], dict: &[u8], queries: &[u8]) {
+fn run(title: &[u8], dict: &[u8], edition: Edition, query: &[u8], queries: &[u8]) {
     let mut list = [9u16; 7];
-    let r = run_queries(Charset::Fsw, dict, &mut list, queries);
+    let r = run_queries(Charset::Fsw, dict, &mut list, edition, query, queries);
     io::write_all(STDOUT_FILENO, title);
     put(b"number ", r.number as usize);
     put(b", place ", r.place);
@@ -35,12 +37,19 @@ fn run(title: &[u8], dict: &[u8], queries: &[u8]) {
 }
 
 // Five lines: entries 2, 3 and 5 have S20500, entries 2 and 4 have S10000.
-fn run_five(title: &[u8], queries: &[u8]) {
+fn search_five(title: &[u8], edition: Edition, query: &[u8], queries: &[u8]) {
     run(
         title,
         b"M500x500\nM510x515S10000490x485S20500500x495\nM515x515S20500500x500\nM515x515S10000490x485\nM515x515S20500500x500\n",
+        edition,
+        query,
         queries,
     );
+}
+
+// A run over all five.
+fn run_five(title: &[u8], queries: &[u8]) {
+    search_five(title, Edition::First, b"Q", queries);
 }
 
 // U+40001 is S10000. U+461F3 is S20512, and with f and r after it S205 in any fill and rotation.
@@ -68,6 +77,59 @@ fn run_editions() {
     );
 }
 
+fn run_searches() {
+    search_five(b"- after a search\n", Edition::First, b"QS20500", b"");
+    search_five(
+        b"- a query after a search\n",
+        Edition::First,
+        b"QS20500",
+        b"QS10000\n",
+    );
+    search_five(
+        b"- the same the other way round\n",
+        Edition::First,
+        b"QS10000",
+        b"QS20500\n",
+    );
+    search_five(
+        b"- after a search in the second edition, in SWU\n",
+        Edition::Second(Charset::Swu),
+        b"Q\xf1\x80\x80\x81",
+        b"QX\nFQS10000oS20500\n",
+    );
+    run(
+        b"- eight lines, two of which are found\n",
+        b"M500x500\nM500x500\nM500x500\nM515x515S20500500x500\nM500x500\nM500x500\nM500x500\nM515x515S20500500x500\n",
+        Edition::First,
+        b"QS20500",
+        b"",
+    );
+}
+
+fn run_refused() {
+    run(
+        b"- a line that is no sign\n",
+        b"M500x500\nM500x5\n",
+        Edition::First,
+        b"QS20500",
+        b"Q\n",
+    );
+    run(
+        b"- eight lines\n",
+        b"M500x500\nM500x500\nM500x500\nM500x500\nM500x500\nM500x500\nM500x500\nM500x500\n",
+        Edition::First,
+        b"Q",
+        b"Q\n",
+    );
+    run(
+        b"- a search whose query is refused, over a line that is no sign\n",
+        b"M500x5\n",
+        Edition::First,
+        b"QX",
+        b"Q\n",
+    );
+}
+
 fn main() {
     run_five(b"- no query\n", b"");
     run_five(b"- one query\n", b"QS20500\n");
@@ -81,15 +143,7 @@ fn main() {
     );
     run_five(b"- refused queries only\n", b"QX\n\n");
     run_five(b"- a last query that is not ended\n", b"QS20500\nQ");
-    run(
-        b"- a line that is no sign\n",
-        b"M500x500\nM500x5\n",
-        b"QS20500\n",
-    );
-    run(
-        b"- eight lines\n",
-        b"M500x500\nM500x500\nM500x500\nM500x500\nM500x500\nM500x500\nM500x500\nM500x500\n",
-        b"Q\n",
-    );
     run_editions();
+    run_searches();
+    run_refused();
 }

@@ -15,7 +15,7 @@ use Rattle.lines.specs.Lines.{lines, ended}
 use Rattle.narrowing.specs.declared.Narrowed.{Narrowed}
 use Rattle.narrowing.specs.Narrowing.{notNarrowed, filled}
 use Rattle.narrowing.specs.Run.{Ended, total}
-use Rattle.dictionary.specs.Opening.{opening}
+use Rattle.dictionary.specs.Search.{found}
 use Rattle.runs.specs.Demand3.{meeting}
 
 -- The query of a line: after F or S it is of the second edition, in FSW or in SWU. Any other line is a query of the first, all of it:
@@ -28,14 +28,16 @@ asking (b ∷ line) = choose (eqb b (code "F")) (Second Fsw, line) (choose (eqb 
 unfoldable pub endedAs : Ended → Narrowed × List ℕ
 endedAs r = (record { number = 0; place = 0; kept = r .count; dropped = total (r .answers) }, r .list)
 
--- with `left` entries of n: these, zeros to the line count n, and beyond that what was there before
+-- with `left` of n entries: these, zeros to n, and beyond that what was there before
 abbrev pub leaving : List ℕ → ℕ → List ℕ → Narrowed × List ℕ
 leaving list n left = (record { number = 0; place = 0; kept = length left; dropped = n - length left }, filled n left (drop n list))
 
+-- the refusal of the search, or what is left of the entries that it wrote
 abbrev pub ranAs : Charset → List ℕ → List ℕ → List Asked → Result (List ℕ) → Narrowed × List ℕ
 ranAs set dict list queries (refusal number place) = (notNarrowed number place, list)
-ranAs set dict list queries (done entries) = leaving list (length (lines dict)) (meeting set dict queries)
+ranAs set dict list queries (done entries) = leaving list (length entries) (meeting set dict queries)
 
-unfoldable pub ranOn : Charset → List ℕ → List ℕ → List ℕ → Narrowed × List ℕ
-ranOn set dict list queries =
-    choose (ended queries) (ranAs set dict list (map asking (lines queries)) (inRoom (length list) (opening set dict))) (notNarrowed textShort (length queries), list)
+-- a search by `first`, and a call by the query of each line; queries that are not ended are refused before it, as 2 at their length
+unfoldable pub ranOn : Charset → List ℕ → List ℕ → Asked → List ℕ → Narrowed × List ℕ
+ranOn set dict list first queries =
+    choose (ended queries) (ranAs set dict list (first ∷ map asking (lines queries)) (inRoom (length list) (found set dict first))) (notNarrowed textShort (length queries), list)

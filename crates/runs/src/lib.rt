@@ -8,6 +8,7 @@ ghost use Rattle.dictionary.specs.Narrowing.{narrowed};
 ghost use Rattle.runs.specs.Runs.{asking, endedAs, ranOn};
 use charset::Charset;
 use dictionary::narrow;
+use dictionary::search;
 use lines::walk::count;
 use lines::walk::is_ended;
 use lines::walk::line_end;
@@ -81,21 +82,28 @@ fn narrow_each(set: Charset, dict: &[u8], list: &mut [u16], n: usize, queries: &
     }
 }
 
-// Opens a dictionary and narrows by the query of each line in order: of the second edition in FSW or in SWU after F or S, otherwise of
-// the first. Answers opening's refusal, or how many entries are left and how many were dropped in all. Queries that do not end in
-// byte 10 are refused first, as 2 at their length: no query is cut short.
-pub fn run_queries(set: Charset, dict: &[u8], list: &mut [u16], queries: &[u8]) -> Narrowed
-    ensures { λ r. ⌜ (r, now (list .exit)) ≡ ranOn set (now (dict .entry)) (now (list .entry)) (now (queries .entry)) ⌝ }
+// Searches a dictionary by a query and narrows by the query of each line in order: of the second edition in FSW or in SWU after F or S,
+// otherwise of the first. Answers the search's refusal, or how many of the entries that it wrote are left and how many were dropped in
+// all. Queries that do not end in byte 10 are refused first, as 2 at their length: no query is cut short.
+pub fn run_queries(
+    set: Charset,
+    dict: &[u8],
+    list: &mut [u16],
+    edition: Edition,
+    query: &[u8],
+    queries: &[u8],
+) -> Narrowed
+    ensures { λ r. ⌜ (r, now (list .exit)) ≡ ranOn set (now (dict .entry)) (now (list .entry)) (edition, now (query .entry)) (now (queries .entry)) ⌝ }
 {
     if !is_ended(queries) {
         return not_narrowed(TEXT_SHORT, queries.len());
     }
-    let opened = dictionary::open(set, dict, list);
-    let number = opened.number;
-    let place = opened.place;
-    let lines = opened.lines;
+    let found = search(set, dict, list, edition, query);
+    let number = found.number;
+    let place = found.place;
+    let written = found.written;
     if number != DONE {
         return not_narrowed(number, place);
     }
-    narrow_each(set, dict, list, lines, queries)
+    narrow_each(set, dict, list, written, queries)
 }

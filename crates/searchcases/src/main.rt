@@ -1,5 +1,5 @@
 // Searches over inputs that a sheet describes: each refusal that the search program can give, and the edges of its three sizes.
-// The sheet is standard input; the file stdout is written from document 01, "The search program".
+// The sheet is standard input; the file stdout is written from document 01, "The search program", and document 02, Q-10.
 //
 // A line of the sheet with `-` in front is a title. A line such as `1024 M500x500~` adds a piece to the input that many times, with
 // byte 10 for `~`. An empty line has the input searched, and the next one starts.

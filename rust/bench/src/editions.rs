@@ -49,6 +49,11 @@ pub fn edition_rows(bench: &Bench, set: Charset) {
         verdict_row(bench, set, &format!("verdict {name}"), asked);
         let b = &bench.dictionary;
         bench.row(
+            &format!("search {name}"),
+            || search_library(b, set, asked),
+            || search_reference(b, set, asked),
+        );
+        bench.row(
             &format!("narrow {name}"),
             || narrow_library(b, set, asked),
             || narrow_reference(b, set, asked),

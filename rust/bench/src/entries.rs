@@ -190,49 +190,78 @@ pub fn centred_reference(dictionary: &Dictionary, set: Charset) -> Pass {
     })
 }
 
-pub fn open_library(dictionary: &Dictionary, set: Charset) -> Pass {
-    let swu = set == Charset::Swu;
-    let (mut list, mut answer) = (vec![0; dictionary.count()], [0; 3]);
-    timed(|| {
-        let (dict, dict_len) = (dictionary.text.as_ptr(), dictionary.text.len());
-        let (room, start) = (list.len(), list.as_mut_ptr());
-        unsafe { raw::halofret_open(swu, dict, dict_len, start, room, &mut answer) };
-        black_box((&list, &answer));
-        answer[2]
-    })
+pub fn search_library(dictionary: &Dictionary, set: Charset, asked: Asked) -> Pass {
+    let mut list = vec![0; dictionary.count()];
+    timed(|| search(dictionary, set, asked, &mut list))
 }
 
-pub fn open_reference(dictionary: &Dictionary, set: Charset) -> Pass {
+pub fn search_reference(dictionary: &Dictionary, set: Charset, asked: Asked) -> Pass {
     let mut list = vec![0; dictionary.count()];
     timed(|| {
-        let answer = reference::open(set, &dictionary.text, &mut list);
+        let Asked { edition, query } = asked;
+        let answer = reference::search(set, &dictionary.text, &mut list, edition, query);
         black_box((&list, &answer));
-        answer.unwrap_or(0) as u64
+        answer.map_or(0, |searched| searched.written as u64)
     })
 }
 
-/// The list as opening leaves it: each narrowing starts from all entries.
+/// The library searches by `Q`, and then narrows by the query.
+pub fn search_and_narrow(dictionary: &Dictionary, set: Charset, asked: Asked) -> Pass {
+    let all = Asked {
+        edition: Edition::First,
+        query: b"Q",
+    };
+    let mut list = vec![0; dictionary.count()];
+    timed(|| {
+        let written = search(dictionary, set, all, &mut list);
+        narrow(dictionary, set, asked, &mut list, written as usize)
+    })
+}
+
+/// The library's search: how many entries it wrote.
+fn search(dictionary: &Dictionary, set: Charset, asked: Asked, list: &mut [u16]) -> u64 {
+    let swu = set == Charset::Swu;
+    let (second, query_swu) = asked.flags();
+    let mut answer = [0; 4];
+    let (dict, dict_len) = (dictionary.text.as_ptr(), dictionary.text.len());
+    let (query, query_len) = (asked.query.as_ptr(), asked.query.len());
+    let (room, start) = (list.len(), list.as_mut_ptr());
+    unsafe {
+        let answer = &mut answer;
+        raw::halofret_search(
+            swu, dict, dict_len, start, room, second, query_swu, query, query_len, answer,
+        )
+    };
+    black_box((&list, &answer));
+    answer[3]
+}
+
+/// The list as a search by `Q` leaves it: each narrowing starts from all entries.
 fn full_list(dictionary: &Dictionary) -> Vec<u16> {
     (1..=dictionary.count() as u16).collect()
 }
 
 pub fn narrow_library(dictionary: &Dictionary, set: Charset, asked: Asked) -> Pass {
+    let mut list = full_list(dictionary);
+    timed(|| narrow(dictionary, set, asked, &mut list, dictionary.count()))
+}
+
+/// The library narrows the first `n` entries: how many it kept.
+fn narrow(dictionary: &Dictionary, set: Charset, asked: Asked, list: &mut [u16], n: usize) -> u64 {
     let swu = set == Charset::Swu;
     let (second, query_swu) = asked.flags();
-    let (mut list, mut answer) = (full_list(dictionary), [0; 4]);
-    timed(|| {
-        let (dict, dict_len) = (dictionary.text.as_ptr(), dictionary.text.len());
-        let (query, query_len) = (asked.query.as_ptr(), asked.query.len());
-        let (room, start) = (list.len(), list.as_mut_ptr());
-        unsafe {
-            let (n, answer) = (room, &mut answer);
-            raw::halofret_narrow(
-                swu, dict, dict_len, start, room, n, second, query_swu, query, query_len, answer,
-            )
-        };
-        black_box((&list, &answer));
-        answer[2]
-    })
+    let mut answer = [0; 4];
+    let (dict, dict_len) = (dictionary.text.as_ptr(), dictionary.text.len());
+    let (query, query_len) = (asked.query.as_ptr(), asked.query.len());
+    let (room, start) = (list.len(), list.as_mut_ptr());
+    unsafe {
+        let answer = &mut answer;
+        raw::halofret_narrow(
+            swu, dict, dict_len, start, room, n, second, query_swu, query, query_len, answer,
+        )
+    };
+    black_box((&list, &answer));
+    answer[2]
 }
 
 pub fn narrow_reference(dictionary: &Dictionary, set: Charset, asked: Asked) -> Pass {

@@ -17,9 +17,11 @@ use styled::*;
 
 const LINE_COUNTS: [usize; 3] = [1_000, 10_000, 65_535];
 const VERDICT_QUERY: &str = "QS100uuR2fft36c";
-const NARROW_QUERIES: [&str; 5] = [
+const FEW_MEET: &str = "QS20500";
+/// Searched and narrowed by.
+const QUERIES: [&str; 5] = [
     "Q",
-    "QS20500",
+    FEW_MEET,
     "QS100uuR2fft36c",
     "QS100uu480x480",
     "QAS100uuT",
@@ -65,15 +67,32 @@ fn rows(bench: &Bench, set: Charset) {
         || centred_library(b, set),
         || centred_reference(b, set),
     );
-    bench.row("open", || open_library(b, set), || open_reference(b, set));
-    for query in NARROW_QUERIES {
+    dictionary_rows(bench, set);
+    edition_rows(bench, set);
+}
+
+/// One row stays inside the library, as its name tells.
+fn dictionary_rows(bench: &Bench, set: Charset) {
+    let b = &bench.dictionary;
+    for query in QUERIES {
+        bench.row(
+            &format!("search by `{query}`"),
+            || search_library(b, set, in_first(query)),
+            || search_reference(b, set, in_first(query)),
+        );
+    }
+    bench.row(
+        &format!("search by `{FEW_MEET}`, beside search by `Q` and narrow by it"),
+        || search_library(b, set, in_first(FEW_MEET)),
+        || search_and_narrow(b, set, in_first(FEW_MEET)),
+    );
+    for query in QUERIES {
         bench.row(
             &format!("narrow by `{query}`"),
             || narrow_library(b, set, in_first(query)),
             || narrow_reference(b, set, in_first(query)),
         );
     }
-    edition_rows(bench, set);
 }
 
 fn in_first(query: &str) -> Asked<'_> {

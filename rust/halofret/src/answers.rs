@@ -168,6 +168,15 @@ impl Verdict {
     }
 }
 
+/// The counts of a search.
+#[derive(Clone, Copy, Debug, PartialEq, Eq)]
+pub struct Searched {
+    /// How many lines the dictionary has.
+    pub lines: usize,
+    /// How many of them meet the query: their entries come first in the list.
+    pub written: usize,
+}
+
 /// The counts of a narrowing call: together the count that it was given.
 #[derive(Clone, Copy, Debug, PartialEq, Eq)]
 pub struct Narrowed {

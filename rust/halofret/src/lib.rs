@@ -19,11 +19,13 @@
 #![deny(missing_docs)]
 
 mod answers;
+mod found;
 pub mod raw;
 mod refusal;
 mod styling;
 
-pub use answers::{Bounds, Boxes, Fetched, Narrowed, Placed, Sign, Verdict};
+pub use answers::{Bounds, Boxes, Fetched, Narrowed, Placed, Searched, Sign, Verdict};
+pub use found::Found;
 pub use refusal::Refusal;
 pub use styling::{Detail, Styling, StylingRecord, SymbolStyle, Zoom, LONGEST_STYLING};
 
@@ -332,20 +334,54 @@ pub fn verdict(
     Ok(Verdict::of(&answer))
 }
 
-/// Reads every line and fills the list with 1 to the line count, which it answers.
-pub fn open(charset: Charset, dictionary: &[u8], list: &mut [u16]) -> Result<usize, Refusal> {
-    let mut answer = [0; 3];
+/// Reads every line and writes the entries of those that meet the query at the start of the list,
+/// rising. Nothing after them is changed. By `Q` they are 1 to the line count.
+///
+/// An entry is the number of a line, from 1. [`Found`] keeps the count of them for the narrowing
+/// that follows.
+///
+/// ```
+/// use halofret::{search, Charset, Edition};
+///
+/// let dictionary = b"M500x500\nM510x515S10000490x485S20500500x495\nM515x515S20500500x500\n";
+/// let mut list = [9; 4];
+/// let searched = search(Charset::Fsw, dictionary, &mut list, Edition::First, b"QS20500")?;
+/// assert_eq!((searched.lines, searched.written), (3, 2));
+/// assert_eq!(list, [2, 3, 9, 9]);
+///
+/// let short = &mut list[..1];
+/// let refusal = search(Charset::Fsw, dictionary, short, Edition::First, b"QS20500").unwrap_err();
+/// assert_eq!((refusal.number, refusal.place), (6, 2));
+/// # Ok::<(), halofret::Refusal>(())
+/// ```
+pub fn search(
+    charset: Charset,
+    dictionary: &[u8],
+    list: &mut [u16],
+    edition: Edition,
+    query: &[u8],
+) -> Result<Searched, Refusal> {
+    let (second, query_swu) = edition.flags();
+    let mut answer = [0; 4];
     unsafe {
-        raw::halofret_open(
+        raw::halofret_search(
             charset.is_swu(),
             dictionary.as_ptr(),
             dictionary.len(),
             list.as_mut_ptr(),
             list.len(),
+            second,
+            query_swu,
+            query.as_ptr(),
+            query.len(),
             &mut answer,
         )
     };
-    written(&answer)
+    Refusal::check(&answer)?;
+    Ok(Searched {
+        lines: answer[2] as usize,
+        written: answer[3] as usize,
+    })
 }
 
 /// Keeps those of the first `count` entries of the list that meet the query, zeros after them.

@@ -126,14 +126,18 @@ extern "C" {
         answer: *mut [u64; 36],
     );
 
-    /// Fills a list with the entries of a dictionary.
-    pub fn halofret_open(
+    /// Fills a list with the entries of a dictionary that meet a query.
+    pub fn halofret_search(
         swu: bool,
         dict: *const u8,
         dict_len: usize,
         list: *mut u16,
         room: usize,
-        answer: *mut [u64; 3],
+        second: bool,
+        query_swu: bool,
+        query: *const u8,
+        query_len: usize,
+        answer: *mut [u64; 4],
     );
 
     /// Keeps the entries of a list that meet a query.

@@ -1,4 +1,5 @@
-//! Opening, narrowing and fetching (document 01, "The dictionary and its list").
+//! Searching, narrowing and fetching (document 01, "The dictionary and its list"; searching by
+//! document 02, Q-10).
 
 use crate::query::{judge, Verdict};
 use crate::query_text::read_query;
@@ -23,7 +24,7 @@ fn is_ended(dictionary: &[u8]) -> bool {
     dictionary.last().is_none_or(|&last| last == LINE_END)
 }
 
-/// The line count; 12 and 14 are the same for opening and narrowing.
+/// The line count of a dictionary that is neither 12 nor 14.
 fn checked_lines(dictionary: &[u8]) -> Answer<usize> {
     if !is_ended(dictionary) {
         return refuse(12, 0);
@@ -68,22 +69,49 @@ fn lines_of(dictionary: &[u8]) -> Lines<'_> {
     Lines { rest: dictionary }
 }
 
-/// Reads every line, then fills the list with 1 to the line count, which it answers.
-pub fn open(charset: Charset, dictionary: &[u8], list: &mut [u16]) -> Answer<usize> {
-    let line_count = checked_lines(dictionary)?;
+/// How many lines the dictionary has, and how many entries searching wrote.
+#[derive(Clone, Copy, Debug, PartialEq, Eq)]
+pub struct Searched {
+    pub lines: usize,
+    pub written: usize,
+}
+
+/// Reads every line, then writes the entries of those that meet the query.
+pub fn search(
+    charset: Charset,
+    dictionary: &[u8],
+    list: &mut [u16],
+    edition: Edition,
+    query: &[u8],
+) -> Answer<Searched> {
+    let query = read_query(edition, query)?;
+    if !is_ended(dictionary) {
+        return refuse(12, 0);
+    }
+    // A bad line may be the last one, so nothing is written before all are read.
+    let mut found = vec![];
     let mut sign = Sign::EMPTY;
-    for (index, line) in lines_of(dictionary).enumerate() {
+    let mut last: u16 = 0;
+    for line in lines_of(dictionary) {
+        let Some(entry) = last.checked_add(1) else {
+            return refuse(14, 0);
+        };
+        last = entry;
         if read_into(charset, line, &mut sign).is_err() {
-            return refuse(13, index + 1);
+            // 14 comes before 13, so where a line is bad all of them are counted.
+            checked_lines(dictionary)?;
+            return refuse(13, entry.into());
+        }
+        if matches!(judge(&query, &sign), Verdict::Met(_)) {
+            found.push(entry);
         }
     }
-    let Some(list) = list.get_mut(..line_count) else {
-        return refuse(6, line_count);
+    let (lines, written) = (last.into(), found.len());
+    let Some(list) = list.get_mut(..written) else {
+        return refuse(6, written);
     };
-    for (index, entry) in list.iter_mut().enumerate() {
-        *entry = index as u16 + 1;
-    }
-    Ok(line_count)
+    list.copy_from_slice(&found);
+    Ok(Searched { lines, written })
 }
 
 /// How many entries narrowing kept, and how many it dropped.

@@ -1,5 +1,5 @@
-//! A plain implementation of document 01 and of requests of document
-//! 02, to hold the proved library against.
+//! A plain implementation of document 01 and of requests of
+//! document 02, to hold the proved library against.
 //!
 //! It was written from the papers alone and shares no code with the library. It is
 //! simple first, but allocates nothing for a line, so that its speed is a fair measure.
@@ -10,7 +10,7 @@
 //! - `styling`, `styling_record`: the same for a sign with a styling, and a styling as numbers
 //! - `geometry`: boxes, centres, shifting and centring
 //! - `query`, `query_text`: a query and its verdict on a sign; reading one in both editions
-//! - `dictionary`: opening, narrowing and fetching
+//! - `dictionary`: searching, narrowing and fetching
 
 mod dictionary;
 mod geometry;
@@ -22,7 +22,7 @@ mod styling_record;
 mod symbol;
 mod text;
 
-pub use dictionary::{fetch, narrow, open, Fetched, Narrowed, MOST_LINES};
+pub use dictionary::{fetch, narrow, search, Fetched, Narrowed, Searched, MOST_LINES};
 pub use geometry::{boxes, centred, shift, Bounds, Boxes, SIZE_LIST_LENGTH};
 pub use query::{verdict, Query, Verdict, MOST_ALTERNATIVES, MOST_ITEMS};
 pub use query_text::{read_query, read_query_into};

@@ -132,10 +132,22 @@ impl Interface for Both {
         agreed(|side| side.verdict(set, edition, query, text), input)
     }
 
-    fn open(&self, set: Charset, dictionary: &[u8], list: &mut [u16]) -> [u64; 3] {
+    fn search(
+        &self,
+        set: Charset,
+        dictionary: &[u8],
+        list: &mut [u16],
+        edition: Edition,
+        query: &[u8],
+    ) -> [u64; 4] {
         let room = list.len();
-        let call = |side: &dyn Interface, list: &mut [u16]| side.open(set, dictionary, list);
-        let input = || format!("{} with room {room}", shown(dictionary));
+        let call = |side: &dyn Interface, list: &mut [u16]| {
+            side.search(set, dictionary, list, edition, query)
+        };
+        let input = || {
+            let (query, dictionary) = (shown(query), shown(dictionary));
+            format!("{query} in {edition:?} over {dictionary}, room {room}")
+        };
         agreed_writing(list, call, input)
     }
 

@@ -45,7 +45,14 @@ pub trait Interface {
     fn centred(&self, set: Charset, text: &[u8], sizes: &[u8], out: &mut [u8]) -> [u64; 3];
     fn read_query(&self, edition: Edition, query: &[u8]) -> [u64; 2];
     fn verdict(&self, set: Charset, edition: Edition, query: &[u8], text: &[u8]) -> [u64; 36];
-    fn open(&self, set: Charset, dictionary: &[u8], list: &mut [u16]) -> [u64; 3];
+    fn search(
+        &self,
+        set: Charset,
+        dictionary: &[u8],
+        list: &mut [u16],
+        edition: Edition,
+        query: &[u8],
+    ) -> [u64; 4];
     fn narrow(
         &self,
         set: Charset,

@@ -214,11 +214,23 @@ impl Interface for Library {
         })
     }
 
-    fn open(&self, set: Charset, dictionary: &[u8], list: &mut [u16]) -> [u64; 3] {
-        let mut dict = Text::new(dictionary);
+    fn search(
+        &self,
+        set: Charset,
+        dictionary: &[u8],
+        list: &mut [u16],
+        edition: Edition,
+        query: &[u8],
+    ) -> [u64; 4] {
+        let (mut dict, mut query) = (Text::new(dictionary), Text::new(query));
+        let (swu, (second, query_swu)) = (is_swu(set), flags(edition, &query));
         let room = list.len();
         writing(list, 0x5555, |list, a| unsafe {
-            raw::halofret_open(is_swu(set), dict.start(), dict.len(), list, room, a)
+            let (dict, dict_len) = (dict.start(), dict.len());
+            let (query, query_len) = (query.start(), query.len());
+            raw::halofret_search(
+                swu, dict, dict_len, list, room, second, query_swu, query, query_len, a,
+            )
         })
     }
 

@@ -159,8 +159,19 @@ macro_rules! side {
                 lay_out!($of::verdict(set, edition, query, text), values)
             }
 
-            fn open(&self, set: Charset, dictionary: &[u8], list: &mut [u16]) -> [u64; 3] {
-                lay_out!($of::open($set_of(set), dictionary, list), one)
+            fn search(
+                &self,
+                set: Charset,
+                dictionary: &[u8],
+                list: &mut [u16],
+                edition: Edition,
+                query: &[u8],
+            ) -> [u64; 4] {
+                let (set, edition) = ($set_of(set), $edition_of(edition));
+                let answer = $of::search(set, dictionary, list, edition, query);
+                let values =
+                    |searched: $of::Searched| vec![searched.lines as u64, searched.written as u64];
+                lay_out!(answer, values)
             }
 
             fn narrow(

@@ -1,12 +1,15 @@
-//! Opening, narrowing and fetching, on good and damaged dictionaries and lists.
+//! Searching, narrowing and fetching, on good and damaged dictionaries and lists.
 
+use differential::both::shown;
 use differential::damage::{damaged, noise};
-use differential::editions::{query_in, wide_query_in};
+use differential::editions::{query_in, query_in_swu, wide_query_in};
 use differential::generate::{dictionary, dictionary_of, in_swu, short_sign};
 use differential::{cases, Both, Charset, Edition, Interface, Random, Tally, BOTH_SETS, EDITIONS};
-use Edition::First;
+use Edition::{First, Second};
 
 const MOST_LINES: usize = 65_535;
+/// What a list holds before it is lent.
+const UNTOUCHED: u16 = 7_777;
 
 /// Bytes 10 in a text.
 fn lines_of(text: &[u8]) -> usize {
@@ -40,7 +43,7 @@ fn any_dictionary(random: &mut Random, set: Charset) -> Vec<u8> {
     }
 }
 
-/// A list as opening leaves it, some entries dropped, and sometimes spoilt.
+/// A list as a search by `Q` leaves it, some entries dropped, and sometimes spoilt.
 fn any_list(random: &mut Random, lines: usize) -> Vec<u16> {
     let dropped_once_in = *random.pick(&[1_000, 4, 2]);
     let mut list: Vec<u16> = (1..=lines as u16)
@@ -60,22 +63,6 @@ fn any_list(random: &mut Random, lines: usize) -> Vec<u16> {
     list
 }
 
-#[test]
-fn opening() {
-    for set in BOTH_SETS {
-        let mut tally = Tally::default();
-        cases(600_000, 20_000, |random| {
-            let dictionary = any_dictionary(random, set);
-            let lines = lines_of(&dictionary);
-            for room in [0, lines.saturating_sub(1), lines, lines + 5] {
-                let mut list = vec![7_777; room];
-                tally.note(Both.open(set, &dictionary, &mut list)[0]);
-            }
-        });
-        tally.expect(&[0, 6, 12, 13]);
-    }
-}
-
 /// A query of the edition, most often good.
 fn any_query(random: &mut Random, edition: Edition) -> Vec<u8> {
     match random.below(6) {
@@ -85,6 +72,151 @@ fn any_query(random: &mut Random, edition: Edition) -> Vec<u8> {
             damaged(random, &sought)
         }
         _ => wide_query_in(random, edition),
+    }
+}
+
+/// The refusals of queries that the edition has.
+fn query_refusals(edition: Edition) -> &'static [usize] {
+    match edition {
+        First => &[1, 2, 3, 4, 5],
+        Second(_) => &[1, 2, 3, 4, 5, 22],
+    }
+}
+
+/// The entries that a search must write or its refusal, but for 14 and 6, as the readers of query
+/// and sign and the verdicts state them.
+fn stated_search(
+    set: Charset,
+    dictionary: &[u8],
+    edition: Edition,
+    query: &[u8],
+) -> Result<Vec<u16>, [u64; 2]> {
+    let refusal = Both.read_query(edition, query);
+    if refusal[0] != 0 {
+        return Err(refusal);
+    }
+    if dictionary.last().is_some_and(|&last| last != 10) {
+        return Err([12, 0]);
+    }
+    let mut entries = vec![];
+    for (line, entry) in dictionary.split_inclusive(|&byte| byte == 10).zip(1..) {
+        let line = &line[..line.len() - 1];
+        if Both.read(set, line).1[0] != 0 {
+            return Err([13, entry.into()]);
+        }
+        if Both.verdict(set, edition, query, line)[2] == 1 {
+            entries.push(entry);
+        }
+    }
+    Ok(entries)
+}
+
+/// Searches with no room, one too little, just enough and more, and holds answer and list to what
+/// is stated. Answers how many entries there are to be found.
+fn search_in_each_room(
+    set: Charset,
+    dictionary: &[u8],
+    edition: Edition,
+    query: &[u8],
+    tally: &mut Tally,
+) -> usize {
+    let lines = lines_of(dictionary);
+    let stated = stated_search(set, dictionary, edition, query);
+    let needed = stated.as_ref().map_or(lines, Vec::len);
+    for room in [0, needed.saturating_sub(1), needed, needed + 5] {
+        let mut list = vec![UNTOUCHED; room];
+        let answer = Both.search(set, dictionary, &mut list, edition, query);
+        tally.note(answer[0]);
+        let mut expected = vec![UNTOUCHED; room];
+        let numbers = match (&stated, expected.get_mut(..needed)) {
+            (Err([number, place]), _) => [*number, *place, 0, 0],
+            (Ok(_), None) => [6, needed as u64, 0, 0],
+            (Ok(entries), Some(start)) => {
+                start.copy_from_slice(entries);
+                [0, 0, lines as u64, needed as u64]
+            }
+        };
+        let input = || format!("{} over {}, room {room}", shown(query), shown(dictionary));
+        assert_eq!((answer, list), (numbers, expected), "{}", input());
+    }
+    stated.map_or(0, |entries| entries.len())
+}
+
+fn searching_by(set: Charset, edition: Edition) {
+    let mut tally = Tally::default();
+    let mut some = 0;
+    cases(600_000, 10_000, |random| {
+        let dictionary = any_dictionary(random, set);
+        let sought = any_query(random, edition);
+        let found = search_in_each_room(set, &dictionary, edition, &sought, &mut tally);
+        some += usize::from(0 < found && found < lines_of(&dictionary));
+    });
+    tally.expect(&[&[0, 6, 12, 13], query_refusals(edition)].concat());
+    assert!(some > 1_000, "only {some} searches found some but not all");
+}
+
+#[test]
+fn searching() {
+    for set in BOTH_SETS {
+        for edition in EDITIONS {
+            searching_by(set, edition);
+        }
+    }
+}
+
+/// Every entry from 1 on, or refusal 6 at the line count.
+#[test]
+fn a_search_by_q_finds_every_line() {
+    let mut random = Random::new(601_000);
+    for lines in [0, 1, 2, 63, 64, 65, 1_000] {
+        let dictionaries = dictionary(&mut random, lines);
+        for (set, dictionary) in BOTH_SETS.into_iter().zip(&dictionaries) {
+            for edition in EDITIONS {
+                let mut list = vec![UNTOUCHED; lines + 2];
+                let answer = Both.search(set, dictionary, &mut list, edition, b"Q");
+                assert_eq!(answer, [0, 0, lines as u64, lines as u64]);
+                let expected = (1..=lines as u16).chain([UNTOUCHED; 2]);
+                assert!(list.iter().copied().eq(expected), "{list:?}");
+                if let Some(short) = lines.checked_sub(1) {
+                    let answer = Both.search(set, dictionary, &mut list[..short], edition, b"Q");
+                    assert_eq!(answer, [6, lines as u64, 0, 0]);
+                }
+            }
+        }
+    }
+}
+
+/// All is bad at first, and one part after another is made good.
+#[test]
+fn searching_refuses_in_order() {
+    let items = |count| "R204t100".repeat(count);
+    let crowded = ["R204t100"; 9].join("o");
+    let bad_queries = [
+        ("Qx".to_string(), [1, 1]),
+        ("QA".to_string(), [2, 2]),
+        (format!("QA{}T{}", items(33), items(33)), [3, 0]),
+        (format!("Q{}{crowded}", items(32)), [4, 0]),
+        (format!("Q{crowded}"), [22, 0]),
+        ("QR204t100".to_string(), [5, 1]),
+    ];
+    let over = vec![10; MOST_LINES + 1];
+    let unended = [&over[..], b"x"].concat();
+    for set in BOTH_SETS {
+        let good = in_set(set, b"M500x500".to_vec());
+        let search = |dictionary: &[u8], query: &str| {
+            let query = query.as_bytes();
+            Both.search(set, dictionary, &mut [], Second(Charset::Fsw), query)
+        };
+        for (query, [number, place]) in &bad_queries {
+            assert_eq!(search(&unended, query), [*number, *place, 0, 0]);
+        }
+        assert_eq!(search(&unended, "Q"), [12, 0, 0, 0]);
+        assert_eq!(search(&over, "Q"), [14, 0, 0, 0]);
+        let bad_last = dictionary_of(&[good.clone(), b"x".to_vec()]);
+        assert_eq!(search(&bad_last, "Q"), [13, 2, 0, 0]);
+        let two = dictionary_of(&[good.clone(), good]);
+        assert_eq!(search(&two, "Q"), [6, 2, 0, 0]);
+        assert_eq!(search(&two, "QT"), [0, 0, 2, 0]);
     }
 }
 
@@ -118,17 +250,15 @@ fn narrowing() {
     let of_dictionaries = [0, 11, 12, 13];
     for set in BOTH_SETS {
         for edition in EDITIONS {
-            let of_queries: &[usize] = match edition {
-                Edition::First => &[1, 2, 3, 4, 5],
-                Edition::Second(_) => &[1, 2, 3, 4, 5, 22],
-            };
-            narrowing_by(set, edition, &[&of_dictionaries, of_queries].concat());
+            let refusals = [&of_dictionaries, query_refusals(edition)].concat();
+            narrowing_by(set, edition, &refusals);
         }
     }
 }
 
-/// A bad line first, in the middle and last: found by opening, and by narrowing only where
-/// it is listed. Nothing is written even if it is the last one listed.
+/// A bad line first, in the middle and last: found by searching whatever the query, even one that
+/// no line meets, and by narrowing only where it is listed. Nothing is written even if it is the
+/// last one. A second bad line changes nothing.
 #[test]
 fn one_bad_line() {
     let mut random = Random::new(620_000);
@@ -138,21 +268,35 @@ fn one_bad_line() {
                 .map(|_| in_set(set, short_sign(&mut random)))
                 .collect();
             lines[bad - 1].push(b'!');
-            let dictionary = dictionary_of(&lines);
-            let mut list: Vec<u16> = (1..=40).collect();
-            let place = bad as u64;
-            assert_eq!(Both.open(set, &dictionary, &mut list), [13, place, 0]);
-            for query in [b"Q".as_slice(), b"QS10000", b"QT"] {
-                let answer = Both.narrow(set, &dictionary, &mut list, 40, First, query);
-                assert_eq!(answer, [13, place, 0, 0]);
-                let mut others = list.clone();
-                others.remove(bad - 1);
-                assert_eq!(
-                    Both.narrow(set, &dictionary, &mut others, 39, First, query)[0],
-                    0
-                );
+            for query in [b"Q".as_slice(), b"QS10000", b"QT", b"QS38b00"] {
+                find_bad_line(&mut random, set, &lines, bad, query);
+            }
+            lines[39].push(b'!');
+            for query in [b"Q".as_slice(), b"QS38b00"] {
+                find_bad_line(&mut random, set, &lines, bad, query);
             }
         }
+    }
+}
+
+/// Searches and narrows 40 lines of which the `bad` is the first that is no sign.
+fn find_bad_line(random: &mut Random, set: Charset, lines: &[Vec<u8>], bad: usize, query: &[u8]) {
+    let dictionary = dictionary_of(lines);
+    let refused = [13, bad as u64, 0, 0];
+    let swu = query_in_swu(random, query).unwrap();
+    for (edition, query) in EDITIONS.into_iter().zip([query, query, &swu]) {
+        for room in [0, 40] {
+            let mut list = vec![UNTOUCHED; room];
+            let answer = Both.search(set, &dictionary, &mut list, edition, query);
+            assert_eq!(answer, refused);
+        }
+        let mut list: Vec<u16> = (1..=40).collect();
+        let answer = Both.narrow(set, &dictionary, &mut list, 40, edition, query);
+        assert_eq!(answer, refused);
+        list.retain(|&entry| !lines[usize::from(entry) - 1].ends_with(b"!"));
+        let good = list.len();
+        let answer = Both.narrow(set, &dictionary, &mut list, good, edition, query);
+        assert_eq!(answer[0], 0);
     }
 }
 
@@ -167,10 +311,11 @@ fn the_most_lines() {
             line.clone_from(&sought);
         }
         let dictionary = dictionary_of(&lines);
+        let search = |list: &mut [u16], query| Both.search(set, &dictionary, list, First, query);
         let mut list = vec![9; MOST_LINES + 1];
-        let short = &mut list[..MOST_LINES - 1];
-        assert_eq!(Both.open(set, &dictionary, short), [6, 65_535, 0]);
-        assert_eq!(Both.open(set, &dictionary, &mut list), [0, 0, 65_535]);
+        let short = search(&mut list[..MOST_LINES - 1], b"Q");
+        assert_eq!(short, [6, 65_535, 0, 0]);
+        assert_eq!(search(&mut list, b"Q"), [0, 0, 65_535, 65_535]);
         assert_eq!(list[MOST_LINES - 1..], [65_535, 9]);
         let answer = Both.narrow(set, &dictionary, &mut list, MOST_LINES, First, b"QS10000");
         assert_eq!(answer, [0, 0, 21_845, 43_690]);
@@ -178,16 +323,35 @@ fn the_most_lines() {
         let answer = Both.narrow(set, &dictionary, &mut list, 21_845, First, b"QT");
         assert_eq!(answer, [0, 0, 0, 21_845]);
 
-        let over = [dictionary, b"\n".to_vec()].concat();
-        assert_eq!(Both.open(set, &over, &mut list), [14, 0, 0]);
-        assert_eq!(
-            Both.narrow(set, &over, &mut list, 0, First, b"Q"),
-            [14, 0, 0, 0]
-        );
-        assert_eq!(
-            Both.open(set, &over[..over.len() - 2], &mut list),
-            [12, 0, 0]
-        );
+        let mut found = vec![9; 21_846];
+        let short = search(&mut found[..21_844], b"QS10000");
+        assert_eq!(short, [6, 21_845, 0, 0]);
+        assert_eq!(search(&mut found, b"QS10000"), [0, 0, 65_535, 21_845]);
+        assert_eq!((found[0], &found[21_844..]), (3, &[65_535, 9][..]));
+        assert_eq!(search(&mut [], b"QT"), [0, 0, 65_535, 0]);
+        one_line_over(set, dictionary);
+    }
+}
+
+/// A line more than the most is 14 whatever it is, and whatever the query.
+fn one_line_over(set: Charset, most: Vec<u8>) {
+    let mut list = vec![9; MOST_LINES + 1];
+    let good = [in_set(set, b"M500x500".to_vec()), vec![10]].concat();
+    let bad_first = [b"x\n", &most[..]].concat();
+    for over in [
+        [&most[..], b"\n"].concat(),
+        [&most[..], &good].concat(),
+        bad_first,
+    ] {
+        for query in [b"Q".as_slice(), b"QS10000", b"QT"] {
+            let answer = Both.search(set, &over, &mut list, First, query);
+            assert_eq!(answer, [14, 0, 0, 0]);
+            let answer = Both.narrow(set, &over, &mut list, 0, First, query);
+            assert_eq!(answer, [14, 0, 0, 0]);
+        }
+        let unended = [&over[..], b"x"].concat();
+        let answer = Both.search(set, &unended, &mut list, First, b"Q");
+        assert_eq!(answer, [12, 0, 0, 0]);
     }
 }
 
@@ -201,8 +365,16 @@ fn long_lines() {
             let lines = vec![in_set(set, longest); 5];
             let dictionary = dictionary_of(&lines);
             let mut list = vec![0; 5];
-            let expected = if symbols == 64 { [0, 0, 5] } else { [13, 1, 0] };
-            assert_eq!(Both.open(set, &dictionary, &mut list), expected);
+            for (query, found) in [(b"Q".as_slice(), 5), (b"QS38b00", 0)] {
+                let answer = Both.search(set, &dictionary, &mut list, First, query);
+                let good = symbols == 64;
+                let expected = if good {
+                    [0, 0, 5, found]
+                } else {
+                    [13, 1, 0, 0]
+                };
+                assert_eq!(answer, expected);
+            }
         }
     }
 }
@@ -218,9 +390,10 @@ fn noise_as_a_dictionary() {
         let count = random.below(list.len() + 2);
         let sought = noise(random, 5);
         for set in BOTH_SETS {
-            Both.open(set, &dictionary, &mut list.clone());
-            Both.narrow(set, &dictionary, &mut list, count, First, b"Q");
-            Both.narrow(set, &dictionary, &mut list, count, First, &sought);
+            for query in [b"Q", &sought[..]] {
+                Both.search(set, &dictionary, &mut list.clone(), First, query);
+                Both.narrow(set, &dictionary, &mut list, count, First, query);
+            }
         }
     });
 }

@@ -1,5 +1,5 @@
 //! What the wrapper says of each refusal, and that each reaches the caller with the number and
-//! the place of document 01, "Refusal numbers", and of document 02, Q-1 and Q-9.
+//! the place of document 01, "Refusal numbers", and of document 02, Q-1, Q-9 and Q-10.
 
 use differential::generate::in_swu;
 use halofret::{raw, Charset, Edition, Refusal};
@@ -98,22 +98,30 @@ fn each_refusal_reaches_the_caller() {
 #[test]
 fn each_refusal_of_a_dictionary_reaches_the_caller() {
     let set = Charset::Fsw;
-    let open = |dictionary: &[u8]| refused(halofret::open(set, dictionary, &mut [0; 2]));
+    let search = |dictionary: &[u8], query: &[u8]| {
+        let (mut list, edition) = ([0; 2], Edition::First);
+        refused(halofret::search(set, dictionary, &mut list, edition, query))
+    };
     let narrow = |list: &mut [u16], count, query: &[u8]| {
         let (dictionary, edition) = (b"M500x500\nM\n", Edition::First);
         refused(halofret::narrow(
             set, dictionary, list, count, edition, query,
         ))
     };
-    assert_eq!(open(b"M500x500\nM500x500\nM500x500\n"), (6, 3));
+    let three = b"M500x500\nM500x500\nM500x500\n";
+    assert_eq!(
+        (search(three, b"Q"), search(three, b"QT")),
+        ((6, 3), (0, 0))
+    );
+    assert_eq!(search(three, b"QR204t100"), (5, 1));
     assert_eq!(narrow(&mut [1], 2, b"Q"), (11, 0));
     assert_eq!(narrow(&mut [1, 1], 2, b"Q"), (11, 0));
     assert_eq!(narrow(&mut [1, 2], 2, b"Q"), (13, 2));
     assert_eq!(narrow(&mut [1, 2], 1, b"Q"), (0, 0));
     assert_eq!(narrow(&mut [1], 2, b"QR204t100"), (5, 1));
-    assert_eq!(open(b"M500x500\nM500x500"), (12, 0));
-    assert_eq!(open(b"M500x500\nM\n"), (13, 2));
-    assert_eq!(open(&[10; 65_536]), (14, 0));
+    assert_eq!(search(b"M500x500\nM500x500", b"Q"), (12, 0));
+    assert_eq!(search(b"M500x500\nM\n", b"QT"), (13, 2));
+    assert_eq!(search(&[10; 65_536], b"Q"), (14, 0));
     let fetch = |number| refused(halofret::fetch(b"M\n", b"M\n", number));
     assert_eq!([0, 1, 2, 3].map(fetch), [(16, 0), (0, 0), (0, 0), (16, 0)]);
     assert_eq!(refused(halofret::fetch(b"M\n", b"M", 1)), (12, 0));
@@ -139,6 +147,8 @@ fn crowded_items_reach_the_caller() {
     );
     let narrow = |query| refused(halofret::narrow(set, &line, &mut [1], 1, second, query));
     assert_eq!((narrow(&eight), narrow(&nine)), ((0, 0), (22, 0)));
+    let search = |query| refused(halofret::search(set, &line, &mut [9], second, query));
+    assert_eq!((search(&eight), search(&nine)), ((0, 0), (22, 0)));
     assert_eq!(refused(halofret::read_query(Edition::First, &nine)), (1, 7));
 }
 
@@ -202,13 +212,16 @@ fn empty_slices() {
             refused(halofret::transcribe_styled(set, &[], &mut [])),
             (2, 0)
         );
-        assert_eq!(halofret::open(set, &[], &mut []), Ok(0));
         for edition in differential::EDITIONS {
             let verdict = |query, text| refused(halofret::verdict(set, edition, query, text));
             assert_eq!(verdict(b"Q", &[]), (2, 0));
             assert_eq!(verdict(&[], b"x"), (2, 0));
             let narrowed = halofret::narrow(set, &[], &mut [], 0, edition, b"Q").unwrap();
             assert_eq!((narrowed.kept, narrowed.dropped), (0, 0));
+            let search = |query| halofret::search(set, &[], &mut [], edition, query);
+            let searched = search(b"Q").unwrap();
+            assert_eq!((searched.lines, searched.written), (0, 0));
+            assert_eq!(refused(search(&[])), (2, 0));
         }
     }
     for edition in differential::EDITIONS {
@@ -224,7 +237,7 @@ fn empty_slices() {
 /// A null pointer of length 0 is an empty slice, as the header says.
 #[test]
 fn null_pointers() {
-    let (none, no_bytes, no_list) = (ptr::null(), ptr::null_mut(), ptr::null_mut());
+    let (none, no_bytes) = (ptr::null(), ptr::null_mut());
     let (mut three, mut four, mut two) = ([9; 3], [9; 4], [9; 2]);
     let (mut sign, mut centre, mut nineteen) = ([9; raw::HALOFRET_SIGN], [9.0; 2], [9; 19]);
     // SAFETY: a null pointer goes with length 0, every other with its own length.
@@ -247,8 +260,6 @@ fn null_pointers() {
             &mut nineteen,
         );
         assert_eq!((nineteen[0], centre), (7, [9.0; 2]));
-        raw::halofret_open(false, none, 0, no_list, 0, &mut three);
-        assert_eq!(three, [0, 0, 0]);
         raw::halofret_fetch(none, 0, b"M\n".as_ptr(), 2, 1, &mut four);
         assert_eq!(four, [0, 1, 0, 1]);
     }
@@ -272,6 +283,29 @@ fn null_pointers_of_queries() {
             );
             assert_eq!(four, [0, 0, 0, 0]);
         }
+    }
+}
+
+/// No dictionary, no query, and no list where one entry is needed.
+#[test]
+fn null_pointers_of_searches() {
+    let (none, list, query) = (ptr::null(), ptr::null_mut(), b"Q".as_ptr());
+    let line = b"M500x500\n";
+    let mut answer = [9; 4];
+    for (second, query_swu) in [(false, false), (false, true), (true, false), (true, true)] {
+        let mut search = |dict, dict_len, query, query_len| {
+            // SAFETY: as above.
+            unsafe {
+                let (swu, room, answer) = (false, 0, &mut answer);
+                raw::halofret_search(
+                    swu, dict, dict_len, list, room, second, query_swu, query, query_len, answer,
+                );
+            }
+            answer
+        };
+        assert_eq!(search(none, 0, query, 1), [0, 0, 0, 0]);
+        assert_eq!(search(none, 0, none, 0), [2, 0, 0, 0]);
+        assert_eq!(search(line.as_ptr(), 9, query, 1), [6, 1, 0, 0]);
     }
 }
 

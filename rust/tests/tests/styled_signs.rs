@@ -302,7 +302,8 @@ fn no_other_entry_takes_a_styling() {
         let plain = &text[..dash as usize];
         let dictionary = [plain, b"\n", &text, b"\n"].concat();
         let mut list = [7; 3];
-        assert_eq!(Both.open(set, &dictionary, &mut list), [13, 2, 0]);
+        let answer = Both.search(set, &dictionary, &mut list, Edition::First, b"Q");
+        assert_eq!((answer, list), ([13, 2, 0, 0], [7; 3]));
         let mut list = [2];
         let answer = Both.narrow(set, &dictionary, &mut list, 1, Edition::First, b"Q");
         assert_eq!((answer, list), ([13, 2, 0, 0], [2]));

@@ -1,5 +1,6 @@
 //! The worked examples of document 01 and of its open points, by all sides. Places in numbers are
-//! those of document 02, Q-5, and offsets those of its Q-8. Queries are of the first edition.
+//! those of document 02, Q-5, offsets those of its Q-8, and searches those of its Q-10. Queries
+//! are of the first edition.
 
 use differential::generate::in_swu;
 use differential::interface;
@@ -358,9 +359,32 @@ fn shifting() {
 const DICTIONARY: &[u8] = b"M500x500\nM510x515S10000490x485S20500500x495\nM515x515S20500500x500\n";
 
 #[test]
-fn opening_and_narrowing() {
+fn searching() {
+    let mut list = [9; 4];
+    let answer = Both.search(Fsw, DICTIONARY, &mut list, First, b"QS20500");
+    assert_eq!((answer, list), ([0, 0, 3, 2], [2, 3, 9, 9]));
+    let mut short = [9];
+    let answer = Both.search(Fsw, DICTIONARY, &mut short, First, b"QS20500");
+    assert_eq!((answer, short), ([6, 2, 0, 0], [9]));
+    let mut none = [9; 4];
+    let answer = Both.search(Fsw, DICTIONARY, &mut none, First, b"QT");
+    assert_eq!((answer, none), ([0, 0, 3, 0], [9; 4]));
+    assert_eq!(
+        Both.search(Fsw, DICTIONARY, &mut [], First, b"QT"),
+        [0, 0, 3, 0]
+    );
+    assert_eq!(
+        Both.search(Fsw, DICTIONARY, &mut list, First, b"Qx"),
+        [1, 1, 0, 0]
+    );
+}
+
+#[test]
+fn searching_by_q_and_narrowing() {
+    let search =
+        |dictionary: &[u8], list: &mut [u16]| Both.search(Fsw, dictionary, list, First, b"Q");
     let mut list = [7; 5];
-    assert_eq!(Both.open(Fsw, DICTIONARY, &mut list), [0, 0, 3]);
+    assert_eq!(search(DICTIONARY, &mut list), [0, 0, 3, 3]);
     assert_eq!(list, [1, 2, 3, 7, 7]);
     assert_eq!(
         Both.narrow(Fsw, DICTIONARY, &mut list, 3, First, b"QS20500"),
@@ -380,11 +404,11 @@ fn opening_and_narrowing() {
         Both.narrow(Fsw, DICTIONARY, &mut list, 0, First, b"Q"),
         [0, 0, 0, 0]
     );
-    assert_eq!(Both.open(Fsw, DICTIONARY, &mut list[..2]), [6, 3, 0]);
-    assert_eq!(Both.open(Fsw, b"", &mut []), [0, 0, 0]);
-    assert_eq!(Both.open(Fsw, b"\n", &mut list), [13, 1, 0]);
-    assert_eq!(Both.open(Fsw, b"M500x500\r\n", &mut list), [13, 1, 0]);
-    assert_eq!(Both.open(Fsw, b"M500x500", &mut list), [12, 0, 0]);
+    assert_eq!(search(DICTIONARY, &mut list[..2]), [6, 3, 0, 0]);
+    assert_eq!(search(b"", &mut []), [0, 0, 0, 0]);
+    assert_eq!(search(b"\n", &mut list), [13, 1, 0, 0]);
+    assert_eq!(search(b"M500x500\r\n", &mut list), [13, 1, 0, 0]);
+    assert_eq!(search(b"M500x500", &mut list), [12, 0, 0, 0]);
 }
 
 #[test]

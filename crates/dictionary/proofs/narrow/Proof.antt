@@ -1,23 +1,43 @@
-use native.Mathlib.Omega.{arith}
-use borrow.Author.Tests.{leb-true}
-use lib.ListN.{length}
-use Rattle.lines.specs.Lines.{lines}
+use Rattle.query.proofs.Answers.{all-fit}
+use Rattle.verdict.proofs.Answers.{query-held}
+use Rattle.dictionary.proofs.Narrowings.{with-refused, with-done}
 use borrow.Author.Needs.{needs}
 use Rattle.dictionary.proofs.narrow.Statement.{statement}
 use Rattle.dictionary.proofs.narrow.Tie as tie
 
-slice-aggregate-narrow-with : tie.Need-slice-aggregate-narrow-with
-slice-aggregate-narrow-with c = search needs
+slice-aggregate-read-into : tie.Need-slice-aggregate-read-into
+slice-aggregate-read-into c = search needs
 
-narrow-with-requires : tie.Need-narrow-with-requires
-narrow-with-requires c κs few = omega (arith, leb-true (length (lines (c .before .before .before .before .before .args .dict .now))) 65535 few)
+read-into-requires : tie.Need-read-into-requires
+read-into-requires c κs = search needs
+
+not-narrowed-requires : tie.Need-not-narrowed-requires
+not-narrowed-requires c κs = search needs
+
+returns : tie.Need-returns
+returns c = with-refused (c .before .before .before .read-into .ensures) _ _ _ _ _ (c .before .if1 .taken) (c .not-narrowed .ensures)
+
+slice-aggregate-narrow-by : tie.Need-slice-aggregate-narrow-by
+slice-aggregate-narrow-by c = search needs
+
+narrow-by-requires : tie.Need-narrow-by-requires
+narrow-by-requires c κs = query-held _ _ _ (all-fit (c .before .before .before .before .before .before .before .before .before .args .edition) _) _ _ (c .before .before .before .before .read-into .ensures) (c .before .before .if1 .left) .laid
 
 same-length : tie.Need-same-length
 same-length c = search needs
 
-returns : tie.Need-returns
-returns c = search needs
+returns-2 : tie.Need-returns-2
+returns-2 c = with-done (c .before .before .before .before .before .before .before .read-into .ensures) _ _ _ _ (c .before .before .before .before .before .if1 .left) _ _ (c .before .before .narrow-by .ensures)
 
 pub narrow-spec : {M : Type 1} → statement M
 narrow-spec =
-    tie.close (tie.spec slice-aggregate-narrow-with narrow-with-requires same-length returns)
+    tie.close
+    (tie.spec
+    slice-aggregate-read-into
+    read-into-requires
+    not-narrowed-requires
+    returns
+    slice-aggregate-narrow-by
+    narrow-by-requires
+    same-length
+    returns-2)

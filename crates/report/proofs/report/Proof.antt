@@ -34,15 +34,12 @@ part-search-end c = search needs
 slice-aggregate-search-2 : tie.Need-slice-aggregate-search-2
 slice-aggregate-search-2 c = search needs
 
-slice-aggregate-search-3 : tie.Need-slice-aggregate-search-3
-slice-aggregate-search-3 c = search needs
-
 search-requires : tie.Need-search-requires
 search-requires c κs = search needs
 
 returns : tie.Need-returns
 returns c =
-    let w = wrote-as (c .before .before .search .ensures) (same-text (split (c .before .before .before .before .before .before .before .before .before))) in
+    let w = wrote-as (c .before .search .ensures) (same-text (split (c .before .before .before .before .before .before .before))) in
     (part-is w, wrote-all w)
 
 pub report-spec : {M : Type 1} → statement M
@@ -56,6 +53,5 @@ report-spec =
     part-search-start
     part-search-end
     slice-aggregate-search-2
-    slice-aggregate-search-3
     search-requires
     returns)

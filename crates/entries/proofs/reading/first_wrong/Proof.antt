@@ -6,7 +6,8 @@ use Rattle.lines.specs.Lines.{lineStart}
 use Rattle.lines.proofs.Starts.{Line, start-first, start-within, line-at}
 use Rattle.narrowing.specs.Narrowing.{entriesFrom}
 use Rattle.entries.specs.Entries.{firstWrong}
-use Rattle.entries.proofs.Lines.{is-sign, no-sign, wrong-start, wrong-here, wrong-later, wrong-none}
+use Rattle.narrowing.proofs.Rising.{bad-start, bad-here, bad-later, bad-none}
+use Rattle.entries.proofs.Lines.{is-sign, no-sign}
 use Rattle.entries.proofs.reading.first_wrong.Statement.{statement}
 use Rattle.entries.proofs.reading.first_wrong.Tie as tie
 
@@ -18,7 +19,7 @@ abbrev μ-loop : tie.MeasureT-loop
 μ-loop set dict n passed₀ start₀ passed start = n - passed
 
 loop-holds : tie.Need-loop-holds Inv-loop μ-loop
-loop-holds c = (omega arith, start-first _, wrong-start _ _ _)
+loop-holds c = (omega arith, start-first _, bad-start _ _)
 
 line-end-requires : tie.Need-line-end-requires Inv-loop μ-loop
 line-end-requires c κs = omega (arith, start-within _ _ _ (omega arith) (omega arith) (c .before .loop .inv .1))
@@ -42,7 +43,7 @@ add-result : tie.Need-add-result Inv-loop μ-loop
 add-result c = omega arith
 
 returns : tie.Need-returns Inv-loop μ-loop
-returns c = wrong-here _ _ _ _ _ (c .before .before .before .before .before .before .before .before .before .loop .inv .2) (c .before .before .before .before .before .before .before .before .loop-test .taken) (no-sign _ _ _ _ _ (here (c .before .before .before .before .before .before .before)) _ _ _ _ _ (c .before .read-into .ensures) (c .if1 .taken))
+returns c = bad-here _ _ _ _ (c .before .before .before .before .before .before .before .before .before .loop .inv .2) (c .before .before .before .before .before .before .before .before .loop-test .taken) (no-sign _ _ _ _ _ (here (c .before .before .before .before .before .before .before)) _ _ _ _ _ (c .before .read-into .ensures) (c .if1 .taken))
 
 add-start : tie.Need-add-start Inv-loop μ-loop
 add-start c = omega (arith, here (c .before .before .before .before .before .before .before) .high)
@@ -57,11 +58,11 @@ loop-again : tie.Need-loop-again Inv-loop μ-loop
 loop-again c = (
   omega arith,
   here (c .before .before .before .before .before .before .before) .next,
-  wrong-later _ _ _ _ _ (c .before .before .before .before .before .before .before .before .before .loop .inv .2) (c .before .before .before .before .before .before .before .before .loop-test .taken) (is-sign _ _ _ _ _ (here (c .before .before .before .before .before .before .before)) _ _ _ _ _ (c .before .read-into .ensures) (c .if1 .left)),
+  bad-later _ _ _ _ (c .before .before .before .before .before .before .before .before .before .loop .inv .2) (c .before .before .before .before .before .before .before .before .loop-test .taken) (is-sign _ _ _ _ _ (here (c .before .before .before .before .before .before .before)) _ _ _ _ _ (c .before .read-into .ensures) (c .if1 .left)),
 )
 
 returns-2 : tie.Need-returns-2 Inv-loop μ-loop
-returns-2 c = wrong-none _ _ _ _ _ (c .before .loop .inv .2) (c .loop-test .left)
+returns-2 c = bad-none _ _ _ _ (c .before .loop .inv .2) (c .loop-test .left)
 
 pub first-wrong-spec : {M : Type 1} → statement M
 first-wrong-spec =

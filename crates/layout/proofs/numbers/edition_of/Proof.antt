@@ -5,7 +5,6 @@ use Rattle.layout.proofs.numbers.edition_of.Statement.{statement}
 use Rattle.layout.proofs.numbers.edition_of.Tie as tie
 use Rattle.layout.proofs.numbers.edition_of.Reads as reads
 use Rattle.layout.proofs.numbers.edition_of.Lts as lts
-use Rattle.layout.proofs.numbers.set_of.Reads as set-of-reads
 
 set-of-requires : tie.Need-set-of-requires
 set-of-requires c κs = search needs

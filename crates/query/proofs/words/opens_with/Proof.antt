@@ -4,7 +4,6 @@ use Rattle.query.proofs.words.opens_with.Statement.{statement}
 use Rattle.query.proofs.words.opens_with.Tie as tie
 use Rattle.query.proofs.words.opens_with.Reads as reads
 use Rattle.query.proofs.words.opens_with.Lts as lts
-use Rattle.token.proofs.reading.byte_at.Reads as byte-at-reads
 
 byte-at-requires : tie.Need-byte-at-requires
 byte-at-requires c κs = search needs

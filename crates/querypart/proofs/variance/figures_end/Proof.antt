@@ -5,7 +5,6 @@ use Rattle.querypart.proofs.variance.figures_end.Statement.{statement}
 use Rattle.querypart.proofs.variance.figures_end.Tie as tie
 use Rattle.querypart.proofs.variance.figures_end.Reads as reads
 use Rattle.querypart.proofs.variance.figures_end.Lts as lts
-use Rattle.token.proofs.reading.digit_at.Reads as digit-at-reads
 
 digit-at-requires : tie.Need-digit-at-requires
 digit-at-requires c κs = search needs

@@ -4,8 +4,6 @@ use Rattle.querypart.proofs.variance.variance_end.Statement.{statement}
 use Rattle.querypart.proofs.variance.variance_end.Tie as tie
 use Rattle.querypart.proofs.variance.variance_end.Reads as reads
 use Rattle.querypart.proofs.variance.variance_end.Lts as lts
-use Rattle.querypart.proofs.variance.figures_end.Reads as figures-end-reads
-use Rattle.token.proofs.reading.byte_at.Reads as byte-at-reads
 
 returns : tie.Need-returns
 returns c = unsaid _ _ (c .before .before .pre) (c .if1 .taken)

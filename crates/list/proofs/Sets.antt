@@ -1,0 +1,286 @@
+-- Laws of a set of entries in bits, and of writing those that it has.
+use Prim.Native.Nat.{ℕ, zero, suc, _+_, _-_, _*_, _/_, _%_, _^_, _≤_, _<_}
+use mathlib.Core.Path.{_≡_, refl, sym, ap, subst, _∙_}
+use mathlib.Core.List.{List, [], _∷_, _++_, append-assoc}
+use mathlib.Core.Bool.{Bool, true, false}
+use native.Mathlib.Nat.{zero-add, add-zero, add-mul-div-right, div-eq-of-lt, pow-suc}
+use native.Mathlib.Numerals.{add-one}
+use native.Mathlib.Omega.{arith}
+use borrow.Author.Tests.{eqb-true, eqb-false}
+use lib.Dec.{eqb, lit<}
+use lib.ListN.{length, getD, take, drop, set, replicate, length-set, getD-replicate}
+use lib.Pow.{pow-pos, pow-add, pow-mono, high, shl-exact}
+use lib.Seq.{drop-cons, set-at, getD-take, getD-set-same, getD-set-other, take-suc, length-take-le}
+use Rattle.format.specs.Format.{keep}
+use Rattle.narrowing.specs.Narrowing.{entriesFrom, upTo, risingOver, rising, listed}
+use Rattle.narrowing.proofs.Keeping.{keep-agree, keep-every}
+use Rattle.narrowing.proofs.Rising.{upTo-rising, rising-parts, rising-within, listed-room, listed-valid}
+use Rattle.narrowing.proofs.Entries.{upTo-kept, upTo-left, Passed, passed-start, passed-in, passed-out, passed-room, passed-end}
+use Rattle.format.proofs.Lists.{all-weaker}
+use Rattle.list.specs.Bits.{byteOf, bitOf, EndsBefore, Holds, Lists}
+
+-- a byte has 8 bits
+pub one-bit : (e : ℕ) → 1 * 2 ^ (e % 8) % 2 ^ 8 ≡ 2 ^ (e % 8)
+one-bit e = shl-exact {a = 1} 1 (e % 8) 8 (lit< tt) (omega arith) ∙ (let z : 1 * 2 ^ (e % 8) ≡ 2 ^ (e % 8) = omega arith in z)
+
+pub one-more : (x e : ℕ) → x < 2 ^ (e % 8) → x + 1 * 2 ^ (e % 8) % 2 ^ 8 < 256
+one-more x e h =
+    let m : 2 ^ (e % 8 + 1) ≤ 2 ^ 8 = pow-mono {i = e % 8 + 1} {j = 8} (omega arith) in
+    let d : 2 ^ (e % 8 + 1) ≡ 2 ^ (e % 8) * 2 = ap (λ i. 2 ^ i) (add-one (e % 8)) ∙ pow-suc 2 (e % 8) in
+    omega (arith, one-bit e, m, d)
+
+-- ONE BYTE of bits below k
+module _ (x k : ℕ) (h : x < 2 ^ k) where
+  added-here : eqb ((x + 2 ^ k) / 2 ^ k % 2) 1 ≡ true
+  added-here = let e : (x + 2 ^ k) / 2 ^ k ≡ 1 = ap (λ y. y / 2 ^ k) (let z : x + 2 ^ k ≡ 1 * 2 ^ k + x = omega arith in z) ∙ high 1 k h in rw e
+
+  added-below : (j : ℕ) → j < k → (x + 2 ^ k) / 2 ^ j % 2 ≡ x / 2 ^ j % 2
+  added-below j l =
+      let m = k - (j + 1) in
+      let s : k ≡ m + 1 + j = omega arith in
+      let p : 2 ^ k ≡ (2 ^ m * 2) * 2 ^ j = ap (λ i. 2 ^ i) s ∙ pow-add 2 (m + 1) j ∙ ap (λ y. y * 2 ^ j) (ap (λ i. 2 ^ i) (add-one m) ∙ pow-suc 2 m) in
+      let d : (x + 2 ^ k) / 2 ^ j ≡ x / 2 ^ j + 2 ^ m * 2 = ap (λ y. (x + y) / 2 ^ j) p ∙ add-mul-div-right x (2 ^ m * 2) (pow-pos j) in
+      ap (λ y. y % 2) d ∙ (let q : (x / 2 ^ j + 2 ^ m * 2) % 2 ≡ x / 2 ^ j % 2 = omega arith in q)
+
+  -- a bit that was not added
+  left-here : eqb (x / 2 ^ k % 2) 1 ≡ false
+  left-here = rw (div-eq-of-lt h)
+
+-- A SET WITHOUT ENTRIES from e on, and with e
+module _ (bits : List ℕ) (e : ℕ) (n : EndsBefore e bits) where
+  abbrev added : List ℕ
+  added = set bits (e / 8) (byteOf bits (e / 8) + 2 ^ (e % 8))
+
+  pub left-out : bitOf bits e ≡ false
+  left-out = left-here (byteOf bits (e / 8)) (e % 8) (n .byte)
+
+  -- the byte of the next entry
+  next-byte : (after : List ℕ) → byteOf after (e / 8) < 2 ^ (e % 8 + 1) → ((i : ℕ) → e / 8 < i → byteOf after i ≡ 0) → EndsBefore (e + 1) after
+  next-byte after h z = go (eqb ((e + 1) / 8) (e / 8)) refl
+    where
+      go : (t : Bool) → eqb ((e + 1) / 8) (e / 8) ≡ t → EndsBefore (e + 1) after
+      go true q =
+          let s = eqb-true ((e + 1) / 8) (e / 8) q in
+          let m : e % 8 + 1 ≡ (e + 1) % 8 = omega (arith, s) in
+          record { byte = rw (s, ← m) h; later = λ i l. z i (omega (arith, s)) }
+      go false q =
+          let s = eqb-false ((e + 1) / 8) (e / 8) q in
+          let d : e / 8 < (e + 1) / 8 = omega (arith, s) in
+          record { byte = omega (arith, z ((e + 1) / 8) d, pow-pos ((e + 1) % 8)); later = λ i l. z i (omega (arith, d)) }
+
+  pub ends-left : EndsBefore (e + 1) bits
+  ends-left = next-byte bits (omega (arith, n .byte, pow-suc 2 (e % 8), ap (λ i. 2 ^ i) (add-one (e % 8)))) (n .later)
+
+  module _ (room : e / 8 < length bits) where
+    same : byteOf added (e / 8) ≡ byteOf bits (e / 8) + 2 ^ (e % 8)
+    same = getD-set-same bits (e / 8) (byteOf bits (e / 8) + 2 ^ (e % 8)) 0 room
+
+    other : (i : ℕ) → (i ≡ e / 8 → ⊥) → byteOf added i ≡ byteOf bits i
+    other i z = getD-set-other bits (e / 8) i (byteOf bits (e / 8) + 2 ^ (e % 8)) 0 z
+
+    pub added-in : bitOf added e ≡ true
+    added-in = rw same (added-here (byteOf bits (e / 8)) (e % 8) (n .byte))
+
+    pub added-still : (i : ℕ) → i < e → bitOf added i ≡ bitOf bits i
+    added-still i l = go (eqb (i / 8) (e / 8)) refl
+      where
+        go : (t : Bool) → eqb (i / 8) (e / 8) ≡ t → bitOf added i ≡ bitOf bits i
+        go true q =
+            let s = eqb-true (i / 8) (e / 8) q in
+            let m : i % 8 < e % 8 = omega (arith, s) in
+            rw (s, same) (ap (λ y. eqb y 1) (added-below (byteOf bits (e / 8)) (e % 8) (n .byte) (i % 8) m))
+        go false q = ap (λ y. eqb (y / 2 ^ (i % 8) % 2) 1) (other (i / 8) (eqb-false (i / 8) (e / 8) q))
+
+    pub ends-added : EndsBefore (e + 1) added
+    ends-added =
+        next-byte added (omega (arith, same, n .byte, pow-suc 2 (e % 8), ap (λ i. 2 ^ i) (add-one (e % 8)))) (λ i l. other i (λ q. omega arith) ∙ n .later i l)
+
+getD-zeros : (n i : ℕ) → byteOf (replicate n 0) i ≡ 0
+getD-zeros zero i = refl
+getD-zeros (suc n) zero = refl
+getD-zeros (suc n) (suc i) = getD-zeros n i
+
+-- FROM a ON THERE IS NONE
+pub ends-later : (bits : List ℕ) (a m : ℕ) → EndsBefore a bits → EndsBefore (a + m) bits
+ends-later bits a zero n = rw (add-zero a) n
+ends-later bits a (suc m) n =
+    let s : a + m + 1 ≡ a + suc m = omega arith in
+    rw (← s) (ends-left bits (a + m) (ends-later bits a m n))
+
+none-later : (bits : List ℕ) (last m : ℕ) → EndsBefore (last + 1) bits → keep (bitOf bits) (upTo (last + m)) ≡ keep (bitOf bits) (upTo last)
+none-later bits last zero n = rw (add-zero last)
+none-later bits last (suc m) n =
+    let s : last + m + 1 ≡ last + suc m = omega arith in
+    let t : last + 1 + m ≡ last + m + 1 = omega arith in
+    rw (← s) (upTo-left (bitOf bits) (last + m) (left-out bits (last + m + 1) (rw (← t) (ends-later bits (last + 1) m n))) ∙ none-later bits last m n)
+
+-- A RISING LIST IS ADDED: so far its first i entries, up to `last`
+pub record Adding (list : List ℕ) (n count : ℕ) (before bits : List ℕ) (last i : ℕ) : Type 0 where
+  pub most : i ≤ n
+  pub room : n ≤ length list
+  pub within : last ≤ count
+  pub rises : risingOver last count (drop i (take n list)) ≡ true
+  pub space : count / 8 < length bits
+  pub long : length bits ≡ length before
+  pub ends : EndsBefore (last + 1) bits
+  pub has : keep (bitOf bits) (upTo last) ≡ take i list
+
+pub adding-start : (list : List ℕ) (n count : ℕ) (bits : List ℕ) → listed (rising count) list n ≡ true → count / 8 < length bits → EndsBefore 1 bits
+    → Adding list n count bits bits 0 0
+unfolding entriesFrom keep
+adding-start list n count bits l r e = record {
+  most = omega arith;
+  room = listed-room (rising count) list n l;
+  within = omega arith;
+  rises = listed-valid (rising count) list n l;
+  space = r;
+  long = refl;
+  ends = rw (zero-add 1) e;
+  has = refl;
+}
+
+module _ {list : List ℕ} {n count : ℕ} {before bits : List ℕ} {last i : ℕ} (c : Adding list n count before bits last i) where
+  pub adding-end : n ≤ i → Lists count (take n list) before bits
+  adding-end h =
+      let s : i ≡ n = omega (arith, c .most) in
+      let m : last + (count - last) ≡ count = omega (arith, c .within) in
+      record { long = c .long; has = rw (← m) (none-later bits last (count - last) (c .ends) ∙ c .has ∙ rw s) }
+
+  module _ (h : i < n) where
+    abbrev entry : ℕ
+    entry = getD list i 0
+
+    parts : (last < entry) × (entry ≤ count) × (risingOver entry count (drop (i + 1) (take n list)) ≡ true)
+    parts =
+        let m : i < length (take n list) = omega (arith, length-take-le n list (c .room)) in
+        let e : drop i (take n list) ≡ entry ∷ drop (i + 1) (take n list) = rw (add-one, drop-cons (take n list) i 0 m, getD-take n list i 0 h) in
+        rising-parts last count entry (drop (i + 1) (take n list)) (ap (risingOver last count) (sym e) ∙ c .rises)
+
+    pub adding-ends : EndsBefore entry bits
+    adding-ends =
+        let m : last + 1 + (entry - (last + 1)) ≡ entry = omega (arith, parts .0) in
+        rw m at (ends-later bits (last + 1) (entry - (last + 1)) (c .ends))
+
+    pub adding-space : entry / 8 < length bits
+    adding-space = omega (arith, c .space, parts .1)
+
+    abbrev more : List ℕ
+    more = set bits (entry / 8) (byteOf bits (entry / 8) + 2 ^ (entry % 8))
+
+    -- those before it stay, and it comes last
+    lists : keep (bitOf more) (upTo entry) ≡ take (i + 1) list
+    lists =
+        let p = entry - 1 in
+        let s : p + 1 ≡ entry = omega (arith, parts .0) in
+        let m : last + (p - last) ≡ p = omega (arith, parts .0) in
+        let still = keep-agree (bitOf more) (bitOf bits) (upTo p)
+        (all-weaker (λ e. (0 < e) × (e ≤ p)) (λ e. bitOf more e ≡ bitOf bits e) (λ e l. added-still bits entry adding-ends adding-space e (omega (arith, l .1, s))) (upTo p) (rising-within p (upTo p) (upTo-rising p))) in
+        let before = still ∙ ap (λ k. keep (bitOf bits) (upTo k)) (sym m) ∙ none-later bits last (p - last) (c .ends) ∙ c .has in
+        let here : bitOf more (p + 1) ≡ true = rw s (added-in bits entry adding-ends adding-space) in
+        ap (λ k. keep (bitOf more) (upTo k)) (sym s) ∙ upTo-kept (bitOf more) p here ∙ rw (before, s, add-one i, take-suc list i 0 (omega (arith, c .room)))
+
+    pub adding-more : Adding list n count before more entry (i + 1)
+    adding-more =
+        let l = length-set bits (entry / 8) (byteOf bits (entry / 8) + 2 ^ (entry % 8)) in
+        record {
+          most = omega arith;
+          room = c .room;
+          within = parts .1;
+          rises = parts .2;
+          space = omega (arith, c .space, l);
+          long = l ∙ c .long;
+          ends = ends-added bits entry adding-ends adding-space;
+          has = lists;
+        }
+
+-- ALL LINES ARE PASSED: of 1 to n the set has those that pass
+pub holds-none : (test : ℕ → Bool) (bits : List ℕ) → EndsBefore 1 bits → Holds test 0 bits
+holds-none test bits e = record { has = λ e l h. absurd (omega arith); ends = rw (zero-add 1) e }
+
+pub none-in : (bytes : ℕ) → EndsBefore 1 (replicate bytes 0)
+none-in bytes = record { byte = omega (arith, getD-zeros bytes (1 / 8), pow-pos (1 % 8)); later = λ i l. getD-zeros bytes i }
+
+module _ {test : ℕ → Bool} {n : ℕ} {bits : List ℕ} (h : Holds test n bits) where
+  below : (after : List ℕ) → ((i : ℕ) → i < n + 1 → bitOf after i ≡ bitOf bits i) → bitOf after (n + 1) ≡ test (n + 1) → (e : ℕ) → 0 < e → e ≤ n + 1 → bitOf after e ≡ test e
+  below after still here e l m = go (eqb e (n + 1)) refl
+    where
+      go : (t : Bool) → eqb e (n + 1) ≡ t → bitOf after e ≡ test e
+      go true q = subst (λ i. bitOf after i ≡ test i) (sym (eqb-true e (n + 1) q)) here
+      go false q =
+          let z = eqb-false e (n + 1) q in
+          still e (omega (arith, z)) ∙ h .has e l (omega (arith, z))
+
+  pub holds-out : test (n + 1) ≡ false → Holds test (n + 1) bits
+  holds-out t = record { has = below bits (λ i l. refl) (left-out bits (n + 1) (h .ends) ∙ sym t); ends = ends-left bits (n + 1) (h .ends) }
+
+  pub holds-in : (n + 1) / 8 < length bits → test (n + 1) ≡ true → Holds test (n + 1) (set bits ((n + 1) / 8) (byteOf bits ((n + 1) / 8) + 2 ^ ((n + 1) % 8)))
+  holds-in room t = record {
+    has = below (added bits (n + 1) (h .ends)) (added-still bits (n + 1) (h .ends) room) (added-in bits (n + 1) (h .ends) room ∙ sym t);
+    ends = ends-added bits (n + 1) (h .ends) room;
+  }
+
+  pub holds-keeps : keep (bitOf bits) (upTo n) ≡ keep test (upTo n)
+  holds-keeps =
+      keep-agree (bitOf bits) test (upTo n)
+      (all-weaker (λ e. (0 < e) × (e ≤ n)) (λ e. bitOf bits e ≡ test e) (λ e l. h .has e (l .0) (l .1)) (upTo n) (rising-within n (upTo n) (upTo-rising n)))
+
+-- THE LOOP that writes them: those of the first e entries that pass, k of them, stand in front
+pub record Writing (list₀ : List ℕ) (test : ℕ → Bool) (n : ℕ) (list : List ℕ) (k e : ℕ) : Type 0 where
+  pub most : e ≤ n
+  pub counted : Passed test k e
+  pub long : length list ≡ length list₀
+  pub memory : list ≡ keep test (upTo e) ++ drop k list₀
+
+pub writing-start : (list : List ℕ) (test : ℕ → Bool) (n : ℕ) → Writing list test n list 0 0
+unfolding entriesFrom keep
+writing-start list test n = record { most = omega arith; counted = passed-start test; long = refl; memory = refl }
+
+module _ {list₀ : List ℕ} {test : ℕ → Bool} {n : ℕ} {list : List ℕ} {k e : ℕ} (c : Writing list₀ test n list k e) where
+  module _ (h : e < n) (room : length (keep test (upTo n)) ≤ length list₀) (t : test (e + 1) ≡ true) where
+    space : k < length list₀
+    space = omega (arith, room, passed-room (c .counted) n h t)
+
+    pub writing-room : k < length list
+    writing-room = omega (arith, space, c .long)
+
+    pub writing-in : Writing list₀ test n (set list k (e + 1)) (k + 1) (e + 1)
+    writing-in = record {
+      most = omega arith;
+      counted = passed-in (c .counted) t;
+      long = length-set list k (e + 1) ∙ c .long;
+      memory = ap (λ l. set l k (e + 1)) (c .memory)
+          ∙ rw (add-one k, drop-cons list₀ k 0 space, set-at (keep test (upTo e)) (getD list₀ k 0) (drop (suc k) list₀) (e + 1) k (sym (c .counted .is)), upTo-kept test e t)
+          (sym (append-assoc (keep test (upTo e)) ((e + 1) ∷ []) (drop (suc k) list₀)));
+    }
+
+  pub writing-out : e < n → test (e + 1) ≡ false → Writing list₀ test n list k (e + 1)
+  writing-out h t = record {
+    most = omega arith;
+    counted = passed-out (c .counted) t;
+    long = c .long;
+    memory = c .memory ∙ ap (λ l. l ++ drop k list₀) (sym (upTo-left test e t));
+  }
+
+  pub writing-end : n ≤ e → list ≡ keep test (upTo n) ++ drop (length (keep test (upTo n))) list₀
+  writing-end h =
+      let s : e ≡ n = omega (arith, c .most) in
+      c .memory ∙ rw (passed-end (c .counted) n (c .most) h, s)
+
+-- EVERY ENTRY: bytes of eight bits set
+all-bits : (k : ℕ) → k < 8 → eqb (255 / 2 ^ k % 2) 1 ≡ true
+all-bits zero h = refl
+all-bits (suc zero) h = refl
+all-bits (suc (suc zero)) h = refl
+all-bits (suc (suc (suc zero))) h = refl
+all-bits (suc (suc (suc (suc zero)))) h = refl
+all-bits (suc (suc (suc (suc (suc zero))))) h = refl
+all-bits (suc (suc (suc (suc (suc (suc zero)))))) h = refl
+all-bits (suc (suc (suc (suc (suc (suc (suc zero))))))) h = refl
+all-bits (suc (suc (suc (suc (suc (suc (suc (suc k)))))))) h = absurd (omega arith)
+
+pub all-listed : (bytes n : ℕ) → n / 8 < bytes → keep (bitOf (replicate bytes 255)) (upTo n) ≡ upTo n
+all-listed bytes n h =
+    keep-agree (bitOf (replicate bytes 255)) (λ e. true) (upTo n)
+    (all-weaker (λ e. (0 < e) × (e ≤ n)) (λ e. bitOf (replicate bytes 255) e ≡ true)
+    (λ e l. rw (getD-replicate {A = ℕ} bytes (e / 8) 255 0 (omega (arith, l .1))) (all-bits (e % 8) (omega arith))) (upTo n) (rising-within n (upTo n) (upTo-rising n)))
+    ∙ keep-every (upTo n)

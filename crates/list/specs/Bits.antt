@@ -1,0 +1,30 @@
+-- A set of entries in bytes, one bit for each: entry e is bit e % 8 of byte e / 8.
+use Prim.Native.Nat.{ℕ, _+_, _/_, _%_, _^_, _≤_, _<_}
+use mathlib.Core.Path.{_≡_}
+use mathlib.Core.List.{List}
+use mathlib.Core.Bool.{Bool}
+use lib.Dec.{eqb}
+use lib.ListN.{length, getD}
+use Rattle.format.specs.Format.{keep}
+use Rattle.narrowing.specs.Narrowing.{upTo}
+
+abbrev pub byteOf : List ℕ → ℕ → ℕ
+byteOf bits i = getD bits i 0
+
+abbrev pub bitOf : List ℕ → ℕ → Bool
+bitOf bits e = eqb (byteOf bits (e / 8) / 2 ^ (e % 8) % 2) 1
+
+-- no entry from e on
+pub record EndsBefore (e : ℕ) (bits : List ℕ) : Type 0 where
+  pub byte : byteOf bits (e / 8) < 2 ^ (e % 8)
+  pub later : (i : ℕ) → e / 8 < i → byteOf bits i ≡ 0
+
+-- of entries 1 to n those that pass the test, and none after
+pub record Holds (test : ℕ → Bool) (n : ℕ) (bits : List ℕ) : Type 0 where
+  pub has : (e : ℕ) → 0 < e → e ≤ n → bitOf bits e ≡ test e
+  pub ends : EndsBefore (n + 1) bits
+
+-- the entries in 1 to count are these, which were added to a set as long
+pub record Lists (count : ℕ) (entries before bits : List ℕ) : Type 0 where
+  pub long : length bits ≡ length before
+  pub has : keep (bitOf bits) (upTo count) ≡ entries
