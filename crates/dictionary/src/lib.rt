@@ -15,8 +15,8 @@ use token::refusal::DONE;
 
 mod words;
 
-// Writes the entries that meet the query at the start of the list, rising: refused as the query is, then as 12, 14, 13, then as 6 with
-// the room needed.
+// Writes the entries that meet the query at the start of the list, rising: refused as the query is, then as 12, 14, 13, then as 6
+// with the room needed.
 pub fn search(
     set: Charset,
     dict: &[u8],

@@ -1,6 +1,6 @@
 -- Demand 3 (document 01, "The dictionary and its list"; document 02, Q-10): one claim about every run of narrowing calls on the list
--- that a search filled. It is about the definitions that the contracts cite: `search` cites `searched`, `found` and `output`, `narrow` cites `narrowed`,
--- `query::read` cites `queryOf` and `readingOf`, and `verdict::verdict` cites `verdictIn`.
+-- that a search filled. It is about the definitions that the contracts cite: `search` cites `searched`, `found` and `output`,
+-- `narrow` cites `narrowed`, `query::read` cites `queryOf` and `readingOf`, and `verdict::verdict` cites `verdictIn`.
 use Prim.Native.Nat.{ℕ, _+_, _≤_}
 use mathlib.Core.Path.{_≡_}
 use mathlib.Core.List.{List, [], _∷_, map, Perm}

@@ -82,9 +82,9 @@ fn narrow_each(set: Charset, dict: &[u8], list: &mut [u16], n: usize, queries: &
     }
 }
 
-// Searches a dictionary by a query and narrows by the query of each line in order: of the second edition in FSW or in SWU after F or S,
-// otherwise of the first. Answers the search's refusal, or how many of the entries that it wrote are left and how many were dropped in
-// all. Queries that do not end in byte 10 are refused first, as 2 at their length: no query is cut short.
+// Searches a dictionary by a query and narrows by the query of each line in order: of the second edition in FSW or in SWU after F or
+// S, otherwise of the first. Answers the search's refusal, or how many of the entries that it wrote are left and how many were dropped
+// in all. Queries that do not end in byte 10 are refused first, as 2 at their length: no query is cut short.
 pub fn run_queries(
     set: Charset,
     dict: &[u8],
