@@ -10,16 +10,13 @@ use Rattle.format.specs.Format.{All, keep}
 use Rattle.format.proofs.Lists.{all-weaker}
 use Rattle.charset.specs.declared.Charset.{Charset}
 use Rattle.token.specs.Refusal.{listWrong, lineWrong}
-use Rattle.token.specs.Result.{done, onDone}
-use Rattle.reader.specs.Signs.{signOf}
+use Rattle.token.specs.Result.{done}
 use Rattle.querygrammar.specs.declared.Edition.{Edition}
 use Rattle.query.specs.declared.words.Head.{Head}
 use Rattle.query.specs.Inner.{ReadInto}
-use Rattle.query.proofs.Answers.{all-fit, Known, not-read, was-read, known}
 use Rattle.queryitem.specs.Words.{wordCount}
-use Rattle.verdict.proofs.Answers.{query-held}
 use Rattle.lines.specs.declared.checked.Counted.{Counted}
-use Rattle.lines.specs.Lines.{lines as linesOf, lineOf}
+use Rattle.lines.specs.Lines.{lines as linesOf}
 use Rattle.lines.specs.Checked.{lineCount, countedAs}
 use Rattle.lines.proofs.Counts.{count-whole, count-refused, count-done}
 use Rattle.narrowing.specs.declared.Narrowed.{Narrowed}
@@ -30,10 +27,11 @@ use Rattle.narrowing.proofs.Rising.{rising-within, listed-room, listed-valid}
 use Rattle.list.specs.Bits.{bitOf, Lists}
 use Rattle.entries.specs.declared.finding.Found.{Found}
 use Rattle.entries.specs.Entries.{readable, firstWrong}
-use Rattle.entries.specs.Judging.{meets, meetsWords}
+use Rattle.entries.specs.Judging.{meetsWords}
 use Rattle.entries.specs.Finding.{foundAs, foundIn, Kept}
-use Rattle.dictionary.specs.Narrowing.{testOf, narrowed}
+use Rattle.dictionary.specs.Narrowing.{narrowed}
 use Rattle.dictionary.specs.Inner.{narrowedWords}
+use Rattle.dictionary.proofs.Asked.{asked-refused, asked-done}
 
 pub kept-most : (test : ℕ → Bool) (list : List ℕ) (n kept : ℕ) → kept ≡ length (keep test (take n list)) → kept ≤ n
 kept-most test list n kept e = omega (arith, keep-length test (take n list), length-take n list)
@@ -55,6 +53,10 @@ all-both : (P Q R : ℕ → Type 0) → ((e : ℕ) → P e → Q e → R e) → 
 all-both P Q R f [] a b = tt
 all-both P Q R f (e ∷ l) a b = (f e (a .0) (b .0), all-both P Q R f l (a .1) (b .1))
 
+-- there is a bit for each entry
+pub counted-bits : (dict : List ℕ) (c : Counted) → c ≡ countedAs (lineCount dict) → c .number ≡ 0 → {m : ℕ} → m ≡ 8192 → c .lines / 8 < m
+counted-bits dict c e z s = omega (arith, count-whole dict (c .lines) (count-done dict c e z) .few)
+
 -- neither the dictionary nor the list is refused
 pub record Ready (dict list : List ℕ) (n lines : ℕ) : Type 0 where
   pub counted : lineCount dict ≡ done lines
@@ -72,7 +74,7 @@ module _ {dict list : List ℕ} {n lines : ℕ} (x : Ready dict list n lines) wh
   ready-lines = count-whole dict lines (x .counted) .lines
 
   -- there is a bit for each entry
-  pub ready-bits : {m : ℕ} → m ≡ 8192 → lines / 8 < m
+  ready-bits : {m : ℕ} → m ≡ 8192 → lines / 8 < m
   ready-bits e = omega (arith, count-whole dict lines (x .counted) .few)
 
   within : All (λ e. (0 < e) × (e ≤ lines)) (take n list)
@@ -82,11 +84,11 @@ module _ {dict list : List ℕ} {n lines : ℕ} (x : Ready dict list n lines) wh
   ready-inside {m} s = let l = ready-bits s in all-weaker (λ e. (0 < e) × (e ≤ lines)) (λ e. e / 8 < m) (λ e h. omega (arith, h .1, l)) (take n list) within
 
   -- the listed entries are in a set, and those that meet the query in another
-  module _ (set : Charset) (words : List ℕ) {none marks : List ℕ} (m : Lists lines (take n list) none marks)
+  module _ (set : Charset) (words : List ℕ) {rises : Bool} {none marks : List ℕ} (m : Lists rises lines (take n list) none marks) (y : rises ≡ true)
       {found : Found} (f : found ≡ foundIn set dict (keep (bitOf marks) (upTo lines)) (meetsWords set dict words)) where
     first : found .wrong ≡ firstBad (readable set dict) (take n list)
     unfolding foundAs
-    first = ap (λ r. r .wrong) f ∙ ap (firstWrong set dict) (m .has)
+    first = ap (λ r. r .wrong) f ∙ ap (firstWrong set dict) (m .has y)
 
     pub by-13 : (found .wrong ≡ 0 → ⊥) → (r : Narrowed) → r ≡ notNarrowed lineWrong (found .wrong) → (r, list) ≡ narrowedWords set dict list n words
     unfolding narrowedWords
@@ -101,7 +103,7 @@ module _ {dict list : List ℕ} {n lines : ℕ} (x : Ready dict list n lines) wh
       same =
           keep-agree (bitOf bits) (meetsWords set dict words) (take n list)
           (all-both (λ e. (0 < e) × (e ≤ lines)) (λ e. bitOf marks e ≡ true) (λ e. bitOf bits e ≡ meetsWords set dict words e) agree (take n list) within
-          (subst (All (λ e. bitOf marks e ≡ true)) (m .has) (keep-passes (bitOf marks) (upTo lines))))
+          (subst (All (λ e. bitOf marks e ≡ true)) (m .has y) (keep-passes (bitOf marks) (upTo lines))))
 
       pub by-done : (kept : ℕ) (after : List ℕ) → kept ≡ length (keep (bitOf bits) (take n list)) → after ≡ filled n (keep (bitOf bits) (take n list)) (drop n list)
           → (record { number = 0; place = 0; kept = kept; dropped = n - kept }, after) ≡ narrowedWords set dict list n words
@@ -113,16 +115,8 @@ module _ {dict list : List ℕ} {n lines : ℕ} (x : Ready dict list n lines) wh
 module _ {e : Edition} {s : List ℕ} {h : Head} {words : List ℕ} (v : ReadInto e s wordCount h words) (set : Charset) (dict list : List ℕ) (n : ℕ) where
   pub with-refused : (r : Narrowed) → (h .number ≡ 0 → ⊥) → r ≡ notNarrowed (h .number) (h .place) → (r, list) ≡ narrowed set dict list n (e, s)
   unfolding narrowed
-  with-refused r z y = go (known e s wordCount (all-fit e s) h words v)
-    where
-      go : Known e s wordCount (all-fit e s) h words v → (r, list) ≡ narrowedBy (testOf set dict (e, s)) (lineCount dict) rising (readable set dict) list n
-      go (not-read q m) =
-          ap (λ x. (x, list)) y ∙ query-refused rising (readable set dict) list n (lineCount dict) (ap (onDone (meets set dict)) q)
-      go (was-read q x k w) = absurd (z k)
+  with-refused r z y = ap (λ x. (x, list)) y ∙ query-refused rising (readable set dict) list n (lineCount dict) (asked-refused v set dict z)
 
   pub with-done : h .number ≡ 0 → (r : Narrowed) (after : List ℕ) → (r, after) ≡ narrowedWords set dict list n words → (r, after) ≡ narrowed set dict list n (e, s)
   unfolding narrowed narrowedWords
-  with-done z r after j =
-      let k = query-held e s wordCount (all-fit e s) h words v z in
-      let same : meetsWords set dict words ≡ meets set dict (k .query) = λ i d. k .same (signOf set (lineOf dict d)) i .met in
-      j ∙ ap (λ t. narrowedBy t (lineCount dict) rising (readable set dict) list n) (ap done same ∙ ap (onDone (meets set dict)) (sym (k .is)))
+  with-done z r after j = j ∙ ap (λ t. narrowedBy t (lineCount dict) rising (readable set dict) list n) (sym (asked-done v set dict z))

@@ -17,17 +17,16 @@ use Rattle.querygrammar.specs.Query.{Query, free}
 use Rattle.query.specs.declared.words.Head.{Head}
 use Rattle.query.specs.Inner.{ReadInto}
 use Rattle.query.specs.Reading.{Asked, queryOf, queryAsked}
-use Rattle.query.proofs.Answers.{all-fit, Known, not-read, was-read, known, query-counted}
+use Rattle.query.proofs.Answers.{query-counted}
 use Rattle.queryitem.specs.Words.{wordCount}
 use Rattle.matching.specs.Meets.{prefixHolds, judged, witnessesOf, verdictOf}
 use Rattle.verdict.specs.Verdict.{verdictOn}
-use Rattle.verdict.proofs.Answers.{query-held}
 use Rattle.lines.specs.Lines.{lines as linesOf, lineOf}
 use Rattle.narrowing.specs.Narrowing.{rising, narrowing}
 use Rattle.narrowing.specs.Form.{asks, Fill, FillLaws}
 use Rattle.narrowing.proofs.Keeping.{keep-every}
 use Rattle.entries.specs.Entries.{isDone, entriesOf}
-use Rattle.entries.specs.Judging.{meets, meetsWords}
+use Rattle.entries.specs.Judging.{meets}
 use Rattle.books.specs.Book.{Book, bookOf, otherText, Sound}
 use Rattle.books.specs.Forms.{GoodBy, asked}
 use Rattle.books.specs.Fills.{fillBy, foundIn, metIn}
@@ -38,6 +37,7 @@ use Rattle.searching.specs.Searching.{notSearched, searchedAs, writing, searche
 use Rattle.dictionary.specs.Narrowing.{testOf, narrowed}
 use Rattle.dictionary.specs.Search.{found, searched}
 use Rattle.dictionary.specs.SearchLaws.{opening, SearchLaws}
+use Rattle.dictionary.proofs.Asked.{asked-refused, asked-done}
 
 -- WITH A QUERY AS TEXT
 module _ {e : Edition} {s : List ℕ} {h : Head} {words : List ℕ} (v : ReadInto e s wordCount h words) (set : Charset) (dict list : List ℕ) where
@@ -47,18 +47,12 @@ module _ {e : Edition} {s : List ℕ} {h : Head} {words : List ℕ} (v : ReadInt
 
   pub with-refused : (r : Searched) → (h .number ≡ 0 → ⊥) → r ≡ notSearched (h .number) (h .place) → Answers r list
   unfolding searched found output
-  with-refused r z y = go (known e s wordCount (all-fit e s) h words v)
-    where
-      go : Known e s wordCount (all-fit e s) h words v → (r ≡ searched set dict list (e, s)) × (list ≡ output list (found set dict (e, s)))
-      go (not-read q m) = let t = ap (onDone (meets set dict)) q in (y ∙ rw t, rw t)
-      go (was-read q x k w) = absurd (z k)
+  with-refused r z y = let t = asked-refused v set dict z in (y ∙ rw t, rw t)
 
   pub with-done : h .number ≡ 0 → (r : Searched) (after : List ℕ) → (r, after) ≡ searchedWords set dict list words → Answers r after
   unfolding searched found searchedWords writing
   with-done z r after j =
-      let k = query-held e s wordCount (all-fit e s) h words v z in
-      let same : meetsWords set dict words ≡ meets set dict (k .query) = λ i d. k .same (signOf set (lineOf dict d)) i .met in
-      let t : done (meetsWords set dict words) ≡ testOf set dict (e, s) = ap done same ∙ ap (onDone (meets set dict)) (sym (k .is)) in
+      let t = sym (asked-done v set dict z) in
       let b = bookOf (set, dict) in (
         ap (λ p. p .0) j ∙ ap (λ q. searchedAs (length (linesOf dict)) (inRoom (length list) (foundIn q b))) t,
         ap (λ p. p .1) j ∙ ap (λ q. output list (foundIn q b)) t,

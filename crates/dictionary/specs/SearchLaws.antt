@@ -25,7 +25,7 @@ pub record SearchLaws : Type 0 where
   -- a query that is refused is told so, whatever the dictionary
   pub query-first : (set : Charset) (dict : List ℕ) (query : Asked) (number place : ℕ) → queryAsked query ≡ refusal number place
       → found set dict query ≡ refusal number place
-  -- searching by `Q`, in every edition, writes what opening wrote and is refused as it was
+  -- searching by `Q`, in every edition, writes what opening writes and is refused as it is
   pub whole : (set : Charset) (dict : List ℕ) (e : Edition) → found set dict (e, ascii "Q") ≡ opening set dict
   -- where a dictionary opens, searching finds what narrowing keeps of all its entries, and is refused as it is
   pub narrows : (set : Charset) (dict rest : List ℕ) (query : Asked) → opening set dict ≡ done (entriesOf dict)

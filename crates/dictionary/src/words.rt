@@ -7,9 +7,8 @@ use charset::Charset;
 use entries::finding::find;
 use lines::checked::count_lines;
 use list::bits::BYTES;
-use list::bits::add_listed;
+use list::bits::add_rising;
 use list::bits::compact;
-use list::rising::is_rising;
 use narrowing::Narrowed;
 use narrowing::not_narrowed;
 use token::refusal::DONE;
@@ -32,11 +31,10 @@ pub fn narrow_by<'a>(
     if number != DONE {
         return not_narrowed(number, 0);
     }
-    if !is_rising(list, n, lines) {
+    let mut listed = [0u8; BYTES];
+    if !add_rising(list, n, lines, &mut listed) {
         return not_narrowed(LIST_WRONG, 0);
     }
-    let mut listed = [0u8; BYTES];
-    add_listed(list, n, lines, &mut listed);
     let mut bits = [0u8; BYTES];
     let found = find(set, dict, lines, words, &listed, &mut bits);
     let wrong = found.wrong;

@@ -5,43 +5,12 @@ use mathlib.Core.List.{List, [], _∷_, _++_, append-nil}
 use mathlib.Core.Bool.{Bool, true, false}
 use native.Mathlib.Numerals.{add-one}
 use native.Mathlib.Omega.{arith}
-use lib.ListN.{length, getD, take, drop, set, length-set, length-append, length-take, drop-of-length-le}
+use lib.ListN.{length, getD, take, drop, set, length-set, length-append}
 use lib.Seq.{drop-cons, getD-take, take-suc, length-take-le}
 use Rattle.format.specs.Format.{All, keep}
-use Rattle.narrowing.specs.Narrowing.{entriesFrom, upTo, risingOver, rising, listed, filled}
+use Rattle.narrowing.specs.Narrowing.{entriesFrom, upTo, filled}
 use Rattle.narrowing.proofs.Keeping.{keep-more}
 use Rattle.narrowing.proofs.Filled.{filled-none, filled-read, filled-zero, filled-more, upTo-more}
-use Rattle.narrowing.proofs.Rising.{rising-on, rising-low, rising-high, rising-end, listed-is}
-
--- the entries before `at` rise up to `last`
-pub record Checking (list : List ℕ) (n count last at : ℕ) : Type 0 where
-  pub room : n ≤ length list
-  pub most : at ≤ n
-  pub same : listed (rising count) list n ≡ risingOver last count (drop at (take n list))
-
-pub checking-start : (list : List ℕ) (n count : ℕ) → n ≤ length list → Checking list n count 0 0
-checking-start list n count h = record { room = h; most = omega arith; same = listed-is (rising count) list n h }
-
-module _ {list : List ℕ} {n count last at : ℕ} (c : Checking list n count last at) where
-  turn : at < n → listed (rising count) list n ≡ risingOver last count (getD list at 0 ∷ drop (at + 1) (take n list))
-  turn h =
-      let l = length-take-le n list (c .room) in
-      let m : at < length (take n list) = omega arith in
-      c .same ∙ rw (add-one, drop-cons (take n list) at 0 m, getD-take n list at 0 h)
-
-  pub checking-low : at < n → getD list at 0 ≤ last → false ≡ listed (rising count) list n
-  checking-low h l = sym (turn h ∙ rising-low last count _ _ l)
-
-  pub checking-high : at < n → count < getD list at 0 → false ≡ listed (rising count) list n
-  checking-high h l = sym (turn h ∙ rising-high last count _ _ l)
-
-  pub checking-on : at < n → last < getD list at 0 → getD list at 0 ≤ count → Checking list n count (getD list at 0) (at + 1)
-  checking-on h l m = record { room = c .room; most = omega arith; same = turn h ∙ rising-on last count _ _ l m }
-
-  pub checking-end : n ≤ at → true ≡ listed (rising count) list n
-  checking-end h =
-      let l : length (take n list) ≤ at = omega (arith, length-take n list) in
-      sym (c .same ∙ rw (drop-of-length-le (take n list) l) (rising-end last count))
 
 -- 1 to e are written in front
 pub record Numbering (list₀ : List ℕ) (n : ℕ) (list : List ℕ) (e : ℕ) : Type 0 where

@@ -2,19 +2,19 @@
 use Prim.Native.Nat.{ℕ, zero, suc, _+_, _-_, _*_, _/_, _%_, _^_, _≤_, _<_}
 use mathlib.Core.Path.{_≡_, refl, sym, ap, subst, _∙_}
 use mathlib.Core.List.{List, [], _∷_, _++_, append-assoc}
-use mathlib.Core.Bool.{Bool, true, false}
+use mathlib.Core.Bool.{Bool, true, false, true≢false}
 use native.Mathlib.Nat.{zero-add, add-zero, add-mul-div-right, div-eq-of-lt, pow-suc}
 use native.Mathlib.Numerals.{add-one}
 use native.Mathlib.Omega.{arith}
 use borrow.Author.Tests.{eqb-true, eqb-false}
 use lib.Dec.{eqb, lit<}
-use lib.ListN.{length, getD, take, drop, set, replicate, length-set, getD-replicate}
+use lib.ListN.{length, getD, take, drop, set, replicate, length-set, length-take, getD-replicate, drop-of-length-le}
 use lib.Pow.{pow-pos, pow-add, pow-mono, high, shl-exact}
 use lib.Seq.{drop-cons, set-at, getD-take, getD-set-same, getD-set-other, take-suc, length-take-le}
 use Rattle.format.specs.Format.{keep}
 use Rattle.narrowing.specs.Narrowing.{entriesFrom, upTo, risingOver, rising, listed}
 use Rattle.narrowing.proofs.Keeping.{keep-agree, keep-every}
-use Rattle.narrowing.proofs.Rising.{upTo-rising, rising-parts, rising-within, listed-room, listed-valid}
+use Rattle.narrowing.proofs.Rising.{upTo-rising, rising-on, rising-low, rising-high, rising-end, rising-within, listed-short, listed-is}
 use Rattle.narrowing.proofs.Entries.{upTo-kept, upTo-left, Passed, passed-start, passed-in, passed-out, passed-room, passed-end}
 use Rattle.format.proofs.Lists.{all-weaker}
 use Rattle.list.specs.Bits.{byteOf, bitOf, EndsBefore, Holds, Lists}
@@ -114,25 +114,31 @@ none-later bits last (suc m) n =
     let t : last + 1 + m ≡ last + m + 1 = omega arith in
     rw (← s) (upTo-left (bitOf bits) (last + m) (left-out bits (last + m + 1) (rw (← t) (ends-later bits (last + 1) m n))) ∙ none-later bits last m n)
 
--- A RISING LIST IS ADDED: so far its first i entries, up to `last`
+-- A LIST IS TESTED AND ADDED: so far its first i entries, which rise up to `last`
 pub record Adding (list : List ℕ) (n count : ℕ) (before bits : List ℕ) (last i : ℕ) : Type 0 where
-  pub most : i ≤ n
   pub room : n ≤ length list
+  pub most : i ≤ n
+  pub same : listed (rising count) list n ≡ risingOver last count (drop i (take n list))
   pub within : last ≤ count
-  pub rises : risingOver last count (drop i (take n list)) ≡ true
   pub space : count / 8 < length bits
   pub long : length bits ≡ length before
   pub ends : EndsBefore (last + 1) bits
   pub has : keep (bitOf bits) (upTo last) ≡ take i list
 
-pub adding-start : (list : List ℕ) (n count : ℕ) (bits : List ℕ) → listed (rising count) list n ≡ true → count / 8 < length bits → EndsBefore 1 bits
-    → Adding list n count bits bits 0 0
+-- it is refused
+refused : (count : ℕ) (entries before bits : List ℕ) → length bits ≡ length before → Lists false count entries before bits
+refused count entries before bits l = record { long = l; has = λ z. absurd (true≢false (sym z)) }
+
+pub adding-short : (list : List ℕ) (n count : ℕ) (bits : List ℕ) → length list < n → (false ≡ listed (rising count) list n) × Lists false count (take n list) bits bits
+adding-short list n count bits h = (sym (listed-short (rising count) list n h), refused count (take n list) bits bits refl)
+
+pub adding-start : (list : List ℕ) (n count : ℕ) (bits : List ℕ) → n ≤ length list → count / 8 < length bits → EndsBefore 1 bits → Adding list n count bits bits 0 0
 unfolding entriesFrom keep
-adding-start list n count bits l r e = record {
+adding-start list n count bits h r e = record {
+  room = h;
   most = omega arith;
-  room = listed-room (rising count) list n l;
+  same = listed-is (rising count) list n h;
   within = omega arith;
-  rises = listed-valid (rising count) list n l;
   space = r;
   long = refl;
   ends = rw (zero-add 1) e;
@@ -140,58 +146,67 @@ adding-start list n count bits l r e = record {
 }
 
 module _ {list : List ℕ} {n count : ℕ} {before bits : List ℕ} {last i : ℕ} (c : Adding list n count before bits last i) where
-  pub adding-end : n ≤ i → Lists count (take n list) before bits
+  pub adding-end : n ≤ i → (true ≡ listed (rising count) list n) × Lists true count (take n list) before bits
   adding-end h =
       let s : i ≡ n = omega (arith, c .most) in
-      let m : last + (count - last) ≡ count = omega (arith, c .within) in
-      record { long = c .long; has = rw (← m) (none-later bits last (count - last) (c .ends) ∙ c .has ∙ rw s) }
+      let l : length (take n list) ≤ i = omega (arith, length-take n list) in
+      let m : last + (count - last) ≡ count = omega (arith, c .within) in (
+        sym (c .same ∙ rw (drop-of-length-le (take n list) l) (rising-end last count)),
+        record { long = c .long; has = λ z. rw (← m) (none-later bits last (count - last) (c .ends) ∙ c .has ∙ rw s) },
+      )
 
   module _ (h : i < n) where
     abbrev entry : ℕ
     entry = getD list i 0
 
-    parts : (last < entry) × (entry ≤ count) × (risingOver entry count (drop (i + 1) (take n list)) ≡ true)
-    parts =
+    turn : listed (rising count) list n ≡ risingOver last count (entry ∷ drop (i + 1) (take n list))
+    turn =
         let m : i < length (take n list) = omega (arith, length-take-le n list (c .room)) in
-        let e : drop i (take n list) ≡ entry ∷ drop (i + 1) (take n list) = rw (add-one, drop-cons (take n list) i 0 m, getD-take n list i 0 h) in
-        rising-parts last count entry (drop (i + 1) (take n list)) (ap (risingOver last count) (sym e) ∙ c .rises)
+        c .same ∙ rw (add-one, drop-cons (take n list) i 0 m, getD-take n list i 0 h)
 
-    pub adding-ends : EndsBefore entry bits
-    adding-ends =
-        let m : last + 1 + (entry - (last + 1)) ≡ entry = omega (arith, parts .0) in
-        rw m at (ends-later bits (last + 1) (entry - (last + 1)) (c .ends))
+    pub adding-low : entry ≤ last → (false ≡ listed (rising count) list n) × Lists false count (take n list) before bits
+    adding-low l = (sym (turn ∙ rising-low last count entry (drop (i + 1) (take n list)) l), refused count (take n list) before bits (c .long))
 
-    pub adding-space : entry / 8 < length bits
-    adding-space = omega (arith, c .space, parts .1)
+    pub adding-high : count < entry → (false ≡ listed (rising count) list n) × Lists false count (take n list) before bits
+    adding-high l = (sym (turn ∙ rising-high last count entry (drop (i + 1) (take n list)) l), refused count (take n list) before bits (c .long))
 
-    abbrev more : List ℕ
-    more = set bits (entry / 8) (byteOf bits (entry / 8) + 2 ^ (entry % 8))
+    module _ (l : last < entry) (m : entry ≤ count) where
+      pub adding-ends : EndsBefore entry bits
+      adding-ends =
+          let s : last + 1 + (entry - (last + 1)) ≡ entry = omega arith in
+          rw s at (ends-later bits (last + 1) (entry - (last + 1)) (c .ends))
 
-    -- those before it stay, and it comes last
-    lists : keep (bitOf more) (upTo entry) ≡ take (i + 1) list
-    lists =
-        let p = entry - 1 in
-        let s : p + 1 ≡ entry = omega (arith, parts .0) in
-        let m : last + (p - last) ≡ p = omega (arith, parts .0) in
-        let still = keep-agree (bitOf more) (bitOf bits) (upTo p)
-        (all-weaker (λ e. (0 < e) × (e ≤ p)) (λ e. bitOf more e ≡ bitOf bits e) (λ e l. added-still bits entry adding-ends adding-space e (omega (arith, l .1, s))) (upTo p) (rising-within p (upTo p) (upTo-rising p))) in
-        let before = still ∙ ap (λ k. keep (bitOf bits) (upTo k)) (sym m) ∙ none-later bits last (p - last) (c .ends) ∙ c .has in
-        let here : bitOf more (p + 1) ≡ true = rw s (added-in bits entry adding-ends adding-space) in
-        ap (λ k. keep (bitOf more) (upTo k)) (sym s) ∙ upTo-kept (bitOf more) p here ∙ rw (before, s, add-one i, take-suc list i 0 (omega (arith, c .room)))
+      pub adding-space : entry / 8 < length bits
+      adding-space = omega (arith, c .space)
 
-    pub adding-more : Adding list n count before more entry (i + 1)
-    adding-more =
-        let l = length-set bits (entry / 8) (byteOf bits (entry / 8) + 2 ^ (entry % 8)) in
-        record {
-          most = omega arith;
-          room = c .room;
-          within = parts .1;
-          rises = parts .2;
-          space = omega (arith, c .space, l);
-          long = l ∙ c .long;
-          ends = ends-added bits entry adding-ends adding-space;
-          has = lists;
-        }
+      abbrev more : List ℕ
+      more = set bits (entry / 8) (byteOf bits (entry / 8) + 2 ^ (entry % 8))
+
+      -- those before it stay, and it comes last
+      lists : keep (bitOf more) (upTo entry) ≡ take (i + 1) list
+      lists =
+          let p = entry - 1 in
+          let s : p + 1 ≡ entry = omega arith in
+          let m : last + (p - last) ≡ p = omega arith in
+          let still = keep-agree (bitOf more) (bitOf bits) (upTo p)
+          (all-weaker (λ e. (0 < e) × (e ≤ p)) (λ e. bitOf more e ≡ bitOf bits e) (λ e l. added-still bits entry adding-ends adding-space e (omega (arith, l .1, s))) (upTo p) (rising-within p (upTo p) (upTo-rising p))) in
+          let before = still ∙ ap (λ k. keep (bitOf bits) (upTo k)) (sym m) ∙ none-later bits last (p - last) (c .ends) ∙ c .has in
+          let here : bitOf more (p + 1) ≡ true = rw s (added-in bits entry adding-ends adding-space) in
+          ap (λ k. keep (bitOf more) (upTo k)) (sym s) ∙ upTo-kept (bitOf more) p here ∙ rw (before, s, add-one i, take-suc list i 0 (omega (arith, c .room)))
+
+      pub adding-more : Adding list n count before more entry (i + 1)
+      adding-more =
+          let s = length-set bits (entry / 8) (byteOf bits (entry / 8) + 2 ^ (entry % 8)) in
+          record {
+            room = c .room;
+            most = omega arith;
+            same = turn ∙ rising-on last count entry (drop (i + 1) (take n list)) l m;
+            within = m;
+            space = omega (arith, c .space, s);
+            long = s ∙ c .long;
+            ends = ends-added bits entry adding-ends adding-space;
+            has = lists;
+          }
 
 -- ALL LINES ARE PASSED: of 1 to n the set has those that pass
 pub holds-none : (test : ℕ → Bool) (bits : List ℕ) → EndsBefore 1 bits → Holds test 0 bits

@@ -2,7 +2,7 @@
 use Prim.Native.Nat.{ℕ, _+_, _/_, _%_, _^_, _≤_, _<_}
 use mathlib.Core.Path.{_≡_}
 use mathlib.Core.List.{List}
-use mathlib.Core.Bool.{Bool}
+use mathlib.Core.Bool.{Bool, true}
 use lib.Dec.{eqb}
 use lib.ListN.{length, getD}
 use Rattle.format.specs.Format.{keep}
@@ -24,7 +24,7 @@ pub record Holds (test : ℕ → Bool) (n : ℕ) (bits : List ℕ) : Type 0 wher
   pub has : (e : ℕ) → 0 < e → e ≤ n → bitOf bits e ≡ test e
   pub ends : EndsBefore (n + 1) bits
 
--- the entries in 1 to count are these, which were added to a set as long
-pub record Lists (count : ℕ) (entries before bits : List ℕ) : Type 0 where
-  pub long : length bits ≡ length before
-  pub has : keep (bitOf bits) (upTo count) ≡ entries
+-- The lent set is as long as before, and if they rise its entries in 1 to count are these.
+pub record Lists (rises : Bool) (count : ℕ) (entries before after : List ℕ) : Type 0 where
+  pub long : length after ≡ length before
+  pub has : rises ≡ true → keep (bitOf after) (upTo count) ≡ entries

@@ -1,6 +1,5 @@
 // A set of entries in 1 to 65,535, one bit for each: entry e is bit e % 8 of byte e / 8.
 ghost use mathlib.Core.Path.{_≡_};
-ghost use mathlib.Core.Bool.{true};
 ghost use mathlib.Core.List.{_++_};
 ghost use Prim.Native.Nat.{_+_, _*_, _/_, _%_, _^_, _≤_, _<_};
 ghost use lib.ListN.{length, getD, take, drop, set as setAt};
@@ -30,16 +29,30 @@ pub fn add(bits: &mut [u8], e: usize)
     bits[e / 8] += bit;
 }
 
-// Adds the first n entries of a list, which rises, to a set that has none.
-pub fn add_listed(list: &[u16], n: usize, count: usize, bits: &mut [u8])
-    requires { ⌜ (listed (rising count) (now list) n ≡ true) × (count / 8 < length (now bits)) × EndsBefore 1 (now bits) ⌝ }
-    ensures { λ _. ⌜ Lists count (take n (now (list .entry))) (now (bits .entry)) (now (bits .exit)) ⌝ }
+// Says whether n is within the list and its first n entries rise strictly in 1 to count. If so, they are added to a set that has none.
+pub fn add_rising(list: &[u16], n: usize, count: usize, bits: &mut [u8]) -> bool
+    requires { ⌜ (count / 8 < length (now bits)) × EndsBefore 1 (now bits) ⌝ }
+    ensures rises { λ r. ⌜ r ≡ listed (rising count) (now (list .entry)) n ⌝ }
+    ensures lists { λ r. ⌜ Lists r count (take n (now (list .entry))) (now (bits .entry)) (now (bits .exit)) ⌝ }
 {
+    if list.len() < n {
+        return false;
+    }
+    let mut last: usize = 0;
     let mut i: usize = 0;
     while i < n {
-        add(bits, list[i] as usize);
+        let e = list[i] as usize;
+        if e <= last {
+            return false;
+        }
+        if count < e {
+            return false;
+        }
+        add(bits, e);
+        last = e;
         i += 1;
     }
+    true
 }
 
 // Writes those of entries 1 to n that the set has in front.

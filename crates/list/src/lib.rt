@@ -1,4 +1,4 @@
 // The list of entry numbers in lent memory.
 
 pub mod bits;
-pub mod rising;
+pub mod numbering;

@@ -18,7 +18,7 @@ use lines::checked::count_lines;
 use list::bits::ALL;
 use list::bits::BYTES;
 use list::bits::write_entries;
-use list::rising::number_entries;
+use list::numbering::number_entries;
 use token::refusal::DONE;
 use token::refusal::LINE_WRONG;
 use token::refusal::ROOM_SHORT;

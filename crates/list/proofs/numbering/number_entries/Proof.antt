@@ -1,8 +1,8 @@
 use Prim.Native.Nat.{_-_}
 use native.Mathlib.Omega.{arith}
 use Rattle.list.proofs.Loops.{Numbering, numbering-start, numbering-more, numbering-end}
-use Rattle.list.proofs.rising.number_entries.Statement.{statement}
-use Rattle.list.proofs.rising.number_entries.Tie as tie
+use Rattle.list.proofs.numbering.number_entries.Statement.{statement}
+use Rattle.list.proofs.numbering.number_entries.Tie as tie
 
 abbrev Inv-loop : tie.InvT-loop
 Inv-loop list₀ n e₀ list e = Numbering list₀ n list e
