@@ -3,8 +3,8 @@
  *
  * The overflow policy. Nothing is cut short and no short result is handed out as a whole one.
  * A call that lacks room is refused as 6, and its place is the room needed.
- * A refused call changes no lent byte: out, list, sign, styling and centre stay as they were; in
- * answer all numbers but the refusal and its place are 0.
+ * A refused call changes no lent byte: out, list, spare, sign, styling and centre stay as they
+ * were; in answer all numbers but the refusal and its place are 0.
  *
  * Every call takes any bytes and any numbers, and ends. answer[0] is the refusal number, 0 for
  * done; answer[1] is its place, but not in halofret_fetch, which tells none.
@@ -21,11 +21,12 @@
  * Memory. Lent buffers must not overlap. A pointer that goes with a length or a room of 0 may be
  * null; sign, styling, centre and answer must not be. No call keeps a pointer, takes memory or has
  * a state: calls on different memory may run at the same time, and any number may read the same
- * text, size list or dictionary. halofret_search and halofret_narrow need 24 KB of stack below
- * their caller, halofret_write_styling 13 KB, every other function 6 KB.
+ * text, size list or dictionary. halofret_sort needs 160 KB of stack below its caller,
+ * halofret_narrow_sorted 32 KB, halofret_search and halofret_narrow 24 KB, halofret_write_styling
+ * 13 KB, every other function 6 KB.
  *
  * Time grows with the length of what is lent, in halofret_fetch with that of both dictionaries,
- * whichever line is asked for.
+ * whichever line is asked for; in halofret_sort also with n times the logarithm of n.
  */
 #ifndef HALOFRET_H
 #define HALOFRET_H
@@ -34,7 +35,7 @@
 #include <stddef.h>
 #include <stdint.h>
 
-#define HALOFRET_VERSION "0.5.0"
+#define HALOFRET_VERSION "0.6.0"
 
 #ifdef __cplusplus
 extern "C" {
@@ -52,15 +53,20 @@ enum {
     HALOFRET_PREFIX_LONG = 3,         /* over 32 prefix symbols or prefix items */
     HALOFRET_SIGNBOX_LONG = 4,        /* over 64 signbox symbols, or 32 signbox items of a query */
     HALOFRET_RANGE_REVERSED = 5,      /* a range ends below its start. Place: the first such R */
-    HALOFRET_ROOM_SHORT = 6,          /* out or list is too short. Place: the room needed */
+    HALOFRET_ROOM_SHORT = 6,          /* out, list or spare is too short. Place: the room needed */
     HALOFRET_SIZES_LENGTH = 7,        /* the size list has not 125,184 bytes */
     HALOFRET_SYMBOL_UNSIZED = 8,      /* a signbox symbol has no size. Place: the first, from 1 */
     HALOFRET_NO_SYMBOLS = 9,          /* a sign without symbols has no box */
     HALOFRET_NUMBER_OUTSIDE = 10,     /* a number to be written leaves 250 to 749 */
     HALOFRET_LIST_WRONG = 11,         /* n is over the list, or its first n entries do not rise
-                                         in 1 to the line count */
+                                         in 1 to the line count. In halofret_sort and in
+                                         halofret_narrow_sorted, where their order is free: n is
+                                         over the list, or one of its first n entries is not in 1
+                                         to the line count or stands twice */
     HALOFRET_DICTIONARY_UNENDED = 12, /* a dictionary is neither empty nor ended by byte 10 */
-    HALOFRET_LINE_WRONG = 13,         /* a line is no sign. Place: the first such line, from 1 */
+    HALOFRET_LINE_WRONG = 13,         /* a line is no sign. Place: the first such line, from 1; in
+                                         halofret_sort and in halofret_narrow_sorted the line of
+                                         the first such entry of the list */
     HALOFRET_TOO_MANY = 14,           /* over 65,535 lines */
     HALOFRET_CODE_WRONG = 15,         /* the symbol code is over 62,592 */
     HALOFRET_ENTRY_ABSENT = 16,       /* no such entry */
@@ -104,6 +110,7 @@ enum {
     HALOFRET_VERDICT_ANSWER = 36,
     HALOFRET_SEARCH_ANSWER = 4,
     HALOFRET_NARROW_ANSWER = 4,
+    HALOFRET_SORT_ANSWER = 2,
     HALOFRET_FETCH_ANSWER = 4
 };
 
@@ -213,6 +220,29 @@ void halofret_search(bool swu, const uint8_t *dict, size_t dict_len, uint16_t *l
 void halofret_narrow(bool swu, const uint8_t *dict, size_t dict_len, uint16_t *list, size_t room,
                      size_t n, bool second, bool query_swu, const uint8_t *query, size_t query_len,
                      uint64_t answer[HALOFRET_NARROW_ANSWER]);
+
+/* Sorts the first n entries of list by the prefixes of their signs, nothing changed beyond. Two
+ * prefixes are compared symbol code by symbol code, from the first on; null has code 0. A prefix
+ * comes before those that go on after it, signs without prefix come last, and entries of equal
+ * prefixes stay in the order they stood. The entries may stand in any order, each once. spare is a
+ * second list, which need not be the length of the first: its first n places hold zeros
+ * afterwards, nothing changed beyond. Room, spare_room and the place of 6 count entries. Only the
+ * lines listed are read.
+ * Refusals 12, 14, 11, 13 for the first bad line in the list's order, 6 at n for spare. */
+void halofret_sort(bool swu, const uint8_t *dict, size_t dict_len, uint16_t *list, size_t room,
+                   size_t n, uint16_t *spare, size_t spare_room,
+                   uint64_t answer[HALOFRET_SORT_ANSWER]);
+
+/* Narrows as halofret_narrow does, but takes the first n entries in any order, each once, and
+ * keeps them in it: those that meet the query come first, in the order they stood, then zeros to
+ * n, nothing changed beyond. halofret_narrow refuses a list that halofret_sort has put in another
+ * order as 11. answer[2] is how many were kept, answer[3] how many dropped.
+ * Refusals 1, 2, 3, 4, 22, 5 of the query, then 12, 14, 11, 13 for the first bad line in the
+ * list's order. */
+void halofret_narrow_sorted(bool swu, const uint8_t *dict, size_t dict_len, uint16_t *list,
+                            size_t room, size_t n, bool second, bool query_swu,
+                            const uint8_t *query, size_t query_len,
+                            uint64_t answer[HALOFRET_NARROW_ANSWER]);
 
 /* Finds a line by a number that runs on from the first dictionary into the second. answer[1] is 0
  * for the first or 1 for the second, answer[2] the line's start there, answer[3] its length without

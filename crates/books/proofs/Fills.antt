@@ -15,7 +15,7 @@ use Rattle.lines.specs.Lines.{isFew}
 use Rattle.lines.specs.Checked.{checkFew}
 use Rattle.narrowing.specs.Narrowing.{rising, firstBad, checkLines}
 use Rattle.narrowing.specs.Form.{asks, FillLaws}
-use Rattle.narrowing.proofs.Keeping.{keep-every, keep-all, keep-agree}
+use Rattle.format.proofs.Keeping.{keep-every, keep-all, keep-agree}
 use Rattle.narrowing.proofs.Rising.{upTo-rising, rising-keep, all-readable}
 use Rattle.books.specs.Book.{Book, bookOf, otherText, countIn, readableIn, entriesIn, checkedIn, Sound}
 use Rattle.books.specs.Forms.{GoodBy}

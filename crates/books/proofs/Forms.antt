@@ -12,14 +12,14 @@ use Rattle.token.specs.Result.{Result, refusal, done}
 use Rattle.token.proofs.Checks.{Counted, onDone-counted}
 use Rattle.narrowing.specs.Narrowing.{listed, keptBy, narrowedBy}
 use Rattle.narrowing.specs.Form.{plain, FormLaws}
-use Rattle.narrowing.proofs.Keeping.{keep-all}
+use Rattle.format.proofs.Keeping.{keep-all}
 use Rattle.narrowing.proofs.Rising.{listed-is, none-bad}
 use Rattle.books.specs.Book.{Book, countIn, readableIn}
 use Rattle.books.specs.Forms.{asked, GoodBy, formBy}
 
 -- on a good list only the query is refused
 module _ (valid : ℕ → List ℕ → Bool) (b : Book) (k after : List ℕ) (g : GoodBy valid b k) where
-  is-listed : listed (valid (b .count)) (k ++ after) (length k) ≡ true
+  pub is-listed : listed (valid (b .count)) (k ++ after) (length k) ≡ true
   is-listed =
       let room : length k ≤ length (k ++ after) = omega (arith, length-append k after) in
       listed-is (valid (b .count)) (k ++ after) (length k) room ∙ rw (take-append-seam k after) (g .passes)

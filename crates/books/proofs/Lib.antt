@@ -2,3 +2,4 @@ pub mod Plain
 pub mod Rewriting
 pub mod Forms
 pub mod Fills
+pub mod Sorting

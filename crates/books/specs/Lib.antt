@@ -1,3 +1,4 @@
 pub mod Book
 pub mod Forms
+pub mod Sorting
 pub mod Fills

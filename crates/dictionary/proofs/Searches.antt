@@ -24,7 +24,7 @@ use Rattle.verdict.specs.Verdict.{verdictOn}
 use Rattle.lines.specs.Lines.{lines as linesOf, lineOf}
 use Rattle.narrowing.specs.Narrowing.{rising, narrowing}
 use Rattle.narrowing.specs.Form.{asks, Fill, FillLaws}
-use Rattle.narrowing.proofs.Keeping.{keep-every}
+use Rattle.format.proofs.Keeping.{keep-every}
 use Rattle.entries.specs.Entries.{isDone, entriesOf}
 use Rattle.entries.specs.Judging.{meets}
 use Rattle.books.specs.Book.{Book, bookOf, otherText, Sound}

@@ -7,7 +7,7 @@ use Rattle.token.specs.Result.{Result, onDone}
 use Rattle.query.specs.Reading.{Asked, queryAsked}
 use Rattle.lines.specs.Checked.{lineCount}
 use Rattle.narrowing.specs.declared.Narrowed.{Narrowed}
-use Rattle.narrowing.specs.Narrowing.{rising, narrowedBy}
+use Rattle.narrowing.specs.Narrowing.{rising, distinct, narrowedBy}
 use Rattle.entries.specs.Entries.{readable}
 use Rattle.entries.specs.Judging.{meets}
 
@@ -19,3 +19,8 @@ testOf set dict query = onDone (meets set dict) (queryAsked query)
 unfoldable pub narrowed : Charset → List ℕ → List ℕ → ℕ → Asked → Narrowed × List ℕ
 narrowed set dict list n query =
     narrowedBy (testOf set dict query) (lineCount dict) rising (readable set dict) list n
+
+-- the form for a list in any order, which keeps that order: 11 is the sort's, and 13 the first bad line in list order (document 02, Q-12)
+unfoldable pub narrowedSorted : Charset → List ℕ → List ℕ → ℕ → Asked → Narrowed × List ℕ
+narrowedSorted set dict list n query =
+    narrowedBy (testOf set dict query) (lineCount dict) distinct (readable set dict) list n

@@ -2,7 +2,7 @@
 ghost use mathlib.Core.Path.{_≡_};
 ghost use Rattle.token.specs.Result.{output};
 ghost use Rattle.dictionary.specs.Search.{found, searched};
-ghost use Rattle.dictionary.specs.Narrowing.{narrowed};
+ghost use Rattle.dictionary.specs.Narrowing.{narrowed, narrowedSorted};
 use charset::Charset;
 use narrowing::Narrowed;
 use narrowing::not_narrowed;
@@ -13,6 +13,7 @@ use searching::not_searched;
 use searching::words::search_by;
 use token::refusal::DONE;
 
+mod sorted;
 mod words;
 
 // Writes the entries that meet the query at the start of the list, rising: refused as the query is, then as 12, 14, 13, then as 6
@@ -55,4 +56,26 @@ pub fn narrow(
         return not_narrowed(number, q.place);
     }
     words::narrow_by(set, dict, list, n, &words)
+}
+
+// As `narrow`, for a list in any order, which it keeps: refused as the query is, then as 12, 14, 11 for an entry that is absent or
+// listed twice, then as 13 with the first bad line in list order.
+pub fn narrow_sorted(
+    set: Charset,
+    dict: &[u8],
+    list: &mut [u16],
+    n: usize,
+    edition: Edition,
+    query: &[u8],
+) -> Narrowed
+    ensures { λ r. ⌜ (r, now (list .exit)) ≡ narrowedSorted set (now (dict .entry)) (now (list .entry)) n (edition, now (query .entry)) ⌝ }
+{
+    let mut words = [0u16; WORDS];
+    let q = query::words::read_into(edition, query, &mut words);
+    let number = q.number;
+    let place = q.place;
+    if number != DONE {
+        return not_narrowed(number, place);
+    }
+    sorted::narrow_sorted_by(set, dict, list, n, &words)
 }

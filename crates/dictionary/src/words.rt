@@ -1,6 +1,7 @@
 // Narrowing by a query that lies in lent words. A bit for each entry says whether it is listed, and another keeps what was judged: no
 // entry is written before every listed line is judged.
 ghost use mathlib.Core.Path.{_≡_};
+ghost use Rattle.narrowing.specs.Narrowing.{rising};
 ghost use Rattle.matching.specs.Inner.{Laid};
 ghost use Rattle.dictionary.specs.Inner.{narrowedWords};
 use charset::Charset;
@@ -23,7 +24,7 @@ pub fn narrow_by<'a>(
     words: &'a [u16],
 ) -> Narrowed
     requires { ⌜ Laid (now words) ⌝ }
-    ensures { λ r. ⌜ (r, now (list .exit)) ≡ narrowedWords set (now (dict .entry)) (now (list .entry)) n (now (words .entry)) ⌝ }
+    ensures { λ r. ⌜ (r, now (list .exit)) ≡ narrowedWords rising set (now (dict .entry)) (now (list .entry)) n (now (words .entry)) ⌝ }
 {
     let counted = count_lines(dict);
     let number = counted.number;

@@ -1,3 +1,4 @@
 pub mod Lines
 pub mod Meeting
+pub mod Walking
 pub mod Seeking

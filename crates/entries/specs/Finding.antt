@@ -3,7 +3,7 @@
 use Prim.Native.Nat.{ℕ}
 use mathlib.Core.Path.{_≡_}
 use mathlib.Core.List.{List}
-use mathlib.Core.Bool.{Bool, false, _&&_}
+use mathlib.Core.Bool.{Bool, false, not, _&&_}
 use lib.Dec.{eqb}
 use lib.ListN.{length}
 use Rattle.format.specs.Format.{choose, keep}
@@ -13,12 +13,16 @@ use Rattle.verdict.specs.declared.judging.Meeting.{Meeting}
 use Rattle.verdict.specs.Inner.{verdictOnWords, meetingOf}
 use Rattle.list.specs.Bits.{bitOf, Holds}
 use Rattle.entries.specs.declared.finding.Found.{Found}
-use Rattle.entries.specs.Entries.{firstWrong}
+use Rattle.entries.specs.Entries.{isDone, readable, firstWrong}
 
 -- the verdict of words on the line of entry e, if it is listed; otherwise the line is not read
 unfoldable pub listedVerdict : Charset → List ℕ → List ℕ → List ℕ → ℕ → Meeting
 listedVerdict set words line listed e =
     choose (bitOf listed e) (meetingOf (verdictOnWords words (signOf set line))) (record { number = 0; met = false })
+
+-- entry e is listed and its line is no sign
+unfoldable pub listedWrong : Charset → List ℕ → List ℕ → ℕ → Bool
+listedWrong set line listed e = bitOf listed e && not (isDone (signOf set line))
 
 unfoldable pub foundAs : ℕ → ℕ → Found
 foundAs wrong met = record { wrong = wrong; met = choose (eqb wrong 0) met 0 }
@@ -30,3 +34,8 @@ foundIn set dict entries test = foundAs (firstWrong set dict entries) (length (k
 pub record Kept (wrong : ℕ) (listed test : ℕ → Bool) (n : ℕ) (before after : List ℕ) : Type 0 where
   pub long : length after ≡ length before
   pub holds : wrong ≡ 0 → Holds (λ e. listed e && test e) n after
+
+-- The lent set is as long as before, and has those of the listed ones in 1 to n whose line is no sign.
+pub record HasWrong (set : Charset) (dict : List ℕ) (listed : ℕ → Bool) (n : ℕ) (before after : List ℕ) : Type 0 where
+  pub long : length after ≡ length before
+  pub holds : Holds (λ e. listed e && not (readable set dict e)) n after

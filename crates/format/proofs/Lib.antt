@@ -18,3 +18,4 @@ pub mod Open
 pub mod Loop
 pub mod At
 pub mod Ends
+pub mod Keeping

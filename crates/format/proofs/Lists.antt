@@ -20,6 +20,11 @@ pub all-weaker : {A : Type 0} (P Q : A → Type 0) → ((a : A) → P a → Q a)
 all-weaker P Q f [] ok = tt
 all-weaker P Q f (a ∷ l) ok = (f a (ok .0), all-weaker P Q f l (ok .1))
 
+-- what follows from two things of every element
+pub all-both : {A : Type 0} (P Q R : A → Type 0) → ((a : A) → P a → Q a → R a) → (l : List A) → All P l → All Q l → All R l
+all-both P Q R f [] p q = tt
+all-both P Q R f (a ∷ l) p q = (f a (p .0) (q .0), all-both P Q R f l (p .1) (q .1))
+
 pub pairs-append : {A B : Type 0} (R : A → B → Type 0) (l k : List A) (m n : List B) → Pairwise R l m → Pairwise R k n → Pairwise R (l ++ k) (m ++ n)
 pairs-append R [] k [] n a b = b
 pairs-append R [] k (y ∷ m) n a b = absurd a

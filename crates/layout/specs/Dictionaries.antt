@@ -6,6 +6,7 @@ use Rattle.token.specs.Result.{Result, refusal, done}
 use Rattle.lines.specs.Lines.{lineOf, lineStart}
 use Rattle.narrowing.specs.declared.Narrowed.{Narrowed}
 use Rattle.searching.specs.declared.Searched.{Searched}
+use Rattle.sorting.specs.declared.Sorted.{Sorted}
 use Rattle.fetching.specs.Fetching.{Entry, inFirst, inSecond}
 
 abbrev pub searchedNumbers : Searched → List ℕ
@@ -13,6 +14,9 @@ searchedNumbers r = r .number ∷ r .place ∷ r .lines ∷ r .written ∷ []
 
 abbrev pub narrowedNumbers : Narrowed → List ℕ
 narrowedNumbers r = r .number ∷ r .place ∷ r .kept ∷ r .dropped ∷ []
+
+abbrev pub sortedNumbers : Sorted → List ℕ
+sortedNumbers r = r .number ∷ r .place ∷ []
 
 -- line k of a dictionary: which it is, where the line starts, and its length
 abbrev pub lineNumbers : ℕ → List ℕ → ℕ → List ℕ

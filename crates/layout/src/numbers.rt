@@ -1,11 +1,12 @@
 // The character set, and answers of a few numbers.
 ghost use mathlib.Core.Path.{_≡_};
 ghost use Rattle.layout.specs.Layouts.{setOf, editionOf, codeNumbers, writtenNumbers};
-ghost use Rattle.layout.specs.Dictionaries.{searchedNumbers, narrowedNumbers};
+ghost use Rattle.layout.specs.Dictionaries.{searchedNumbers, narrowedNumbers, sortedNumbers};
 use charset::Charset;
 use narrowing::Narrowed;
 use querygrammar::Edition;
 use searching::Searched;
+use sorting::Sorted;
 use symbol::Code;
 use token::Written;
 
@@ -61,4 +62,10 @@ pub fn narrowed_numbers(r: Narrowed) -> [u64; 4]
         r.kept as u64,
         r.dropped as u64,
     ]
+}
+
+pub fn sorted_numbers(r: Sorted) -> [u64; 2]
+    ensures { λ a. ⌜ a ≡ sortedNumbers r ⌝ }
+{
+    [r.number as u64, r.place as u64]
 }

@@ -55,3 +55,10 @@ module _ (d : List ℕ) (c : Counted) (e : c ≡ countedAs (lineCount d)) where
 
   pub count-done : c .number ≡ 0 → lineCount d ≡ done (c .lines)
   count-done z = done-by (length (lines d)) c (ended d) (fewLines d) e z
+
+  module _ (z : c .number ≡ 0) where
+    pub counted-lines : c .lines ≡ length (lines d)
+    counted-lines = count-whole d (c .lines) (count-done z) .lines
+
+    pub counted-few : c .lines ≤ 65535
+    counted-few = count-whole d (c .lines) (count-done z) .few

@@ -1,2 +1,4 @@
 pub mod Loops
+pub mod Bytes
 pub mod Sets
+pub mod Marking

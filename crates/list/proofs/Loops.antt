@@ -9,7 +9,7 @@ use lib.ListN.{length, getD, take, drop, set, length-set, length-append}
 use lib.Seq.{drop-cons, getD-take, take-suc, length-take-le}
 use Rattle.format.specs.Format.{All, keep}
 use Rattle.narrowing.specs.Narrowing.{entriesFrom, upTo, filled}
-use Rattle.narrowing.proofs.Keeping.{keep-more}
+use Rattle.format.proofs.Keeping.{keep-more}
 use Rattle.narrowing.proofs.Filled.{filled-none, filled-read, filled-zero, filled-more, upTo-more}
 
 -- 1 to e are written in front
@@ -39,7 +39,7 @@ all-at P [] a i h = absurd (omega arith)
 all-at P (e ∷ l) a zero h = a .0
 all-at P (e ∷ l) a (suc i) h = all-at P l (a .1) i (omega arith)
 
-within : (P : ℕ → Type 0) (list : List ℕ) (n : ℕ) → n ≤ length list → All P (take n list) → (i : ℕ) → i < n → P (getD list i 0)
+pub within : (P : ℕ → Type 0) (list : List ℕ) (n : ℕ) → n ≤ length list → All P (take n list) → (i : ℕ) → i < n → P (getD list i 0)
 within P list n room a i h = rw (← getD-take n list i 0 h) (all-at P (take n list) a i (omega (arith, length-take-le n list room)))
 
 module _ (test : ℕ → Bool) (list : List ℕ) (i : ℕ) (h : i < length list) where

@@ -1,56 +1,51 @@
 -- Laws of a set of entries in bits, and of writing those that it has.
-use Prim.Native.Nat.{ℕ, zero, suc, _+_, _-_, _*_, _/_, _%_, _^_, _≤_, _<_}
+use Prim.Native.Nat.{ℕ, zero, suc, _+_, _-_, _/_, _%_, _^_, _≤_, _<_}
 use mathlib.Core.Path.{_≡_, refl, sym, ap, subst, _∙_}
 use mathlib.Core.List.{List, [], _∷_, _++_, append-assoc}
 use mathlib.Core.Bool.{Bool, true, false, true≢false}
-use native.Mathlib.Nat.{zero-add, add-zero, add-mul-div-right, div-eq-of-lt, pow-suc}
+use native.Mathlib.Nat.{zero-add, add-zero, pow-suc}
 use native.Mathlib.Numerals.{add-one}
 use native.Mathlib.Omega.{arith}
 use borrow.Author.Tests.{eqb-true, eqb-false}
-use lib.Dec.{eqb, lit<}
+use lib.Dec.{eqb}
 use lib.ListN.{length, getD, take, drop, set, replicate, length-set, length-take, getD-replicate, drop-of-length-le}
-use lib.Pow.{pow-pos, pow-add, pow-mono, high, shl-exact}
+use lib.Pow.{pow-pos}
 use lib.Seq.{drop-cons, set-at, getD-take, getD-set-same, getD-set-other, take-suc, length-take-le}
-use Rattle.format.specs.Format.{keep}
+use Rattle.format.specs.Format.{All, keep}
 use Rattle.narrowing.specs.Narrowing.{entriesFrom, upTo, risingOver, rising, listed}
-use Rattle.narrowing.proofs.Keeping.{keep-agree, keep-every}
+use Rattle.format.proofs.Keeping.{keep-agree, keep-every}
 use Rattle.narrowing.proofs.Rising.{upTo-rising, rising-on, rising-low, rising-high, rising-end, rising-within, listed-short, listed-is}
 use Rattle.narrowing.proofs.Entries.{upTo-kept, upTo-left, Passed, passed-start, passed-in, passed-out, passed-room, passed-end}
 use Rattle.format.proofs.Lists.{all-weaker}
 use Rattle.list.specs.Bits.{byteOf, bitOf, EndsBefore, Holds, Lists}
+use Rattle.list.proofs.Bytes.{left-here, added-here, added-other}
 
--- a byte has 8 bits
-pub one-bit : (e : ℕ) → 1 * 2 ^ (e % 8) % 2 ^ 8 ≡ 2 ^ (e % 8)
-one-bit e = shl-exact {a = 1} 1 (e % 8) 8 (lit< tt) (omega arith) ∙ (let z : 1 * 2 ^ (e % 8) ≡ 2 ^ (e % 8) = omega arith in z)
+-- AN ENTRY that the set does not have is added, and changes no other
+abbrev added : List ℕ → ℕ → List ℕ
+added bits e = set bits (e / 8) (byteOf bits (e / 8) + 2 ^ (e % 8))
 
-pub one-more : (x e : ℕ) → x < 2 ^ (e % 8) → x + 1 * 2 ^ (e % 8) % 2 ^ 8 < 256
-one-more x e h =
-    let m : 2 ^ (e % 8 + 1) ≤ 2 ^ 8 = pow-mono {i = e % 8 + 1} {j = 8} (omega arith) in
-    let d : 2 ^ (e % 8 + 1) ≡ 2 ^ (e % 8) * 2 = ap (λ i. 2 ^ i) (add-one (e % 8)) ∙ pow-suc 2 (e % 8) in
-    omega (arith, one-bit e, m, d)
+module _ (bits : List ℕ) (e : ℕ) (room : e / 8 < length bits) where
+  same : byteOf (added bits e) (e / 8) ≡ byteOf bits (e / 8) + 2 ^ (e % 8)
+  same = getD-set-same bits (e / 8) (byteOf bits (e / 8) + 2 ^ (e % 8)) 0 room
 
--- ONE BYTE of bits below k
-module _ (x k : ℕ) (h : x < 2 ^ k) where
-  added-here : eqb ((x + 2 ^ k) / 2 ^ k % 2) 1 ≡ true
-  added-here = let e : (x + 2 ^ k) / 2 ^ k ≡ 1 = ap (λ y. y / 2 ^ k) (let z : x + 2 ^ k ≡ 1 * 2 ^ k + x = omega arith in z) ∙ high 1 k h in rw e
+  other : (i : ℕ) → (i ≡ e / 8 → ⊥) → byteOf (added bits e) i ≡ byteOf bits i
+  other i z = getD-set-other bits (e / 8) i (byteOf bits (e / 8) + 2 ^ (e % 8)) 0 z
 
-  added-below : (j : ℕ) → j < k → (x + 2 ^ k) / 2 ^ j % 2 ≡ x / 2 ^ j % 2
-  added-below j l =
-      let m = k - (j + 1) in
-      let s : k ≡ m + 1 + j = omega arith in
-      let p : 2 ^ k ≡ (2 ^ m * 2) * 2 ^ j = ap (λ i. 2 ^ i) s ∙ pow-add 2 (m + 1) j ∙ ap (λ y. y * 2 ^ j) (ap (λ i. 2 ^ i) (add-one m) ∙ pow-suc 2 m) in
-      let d : (x + 2 ^ k) / 2 ^ j ≡ x / 2 ^ j + 2 ^ m * 2 = ap (λ y. (x + y) / 2 ^ j) p ∙ add-mul-div-right x (2 ^ m * 2) (pow-pos j) in
-      ap (λ y. y % 2) d ∙ (let q : (x / 2 ^ j + 2 ^ m * 2) % 2 ≡ x / 2 ^ j % 2 = omega arith in q)
+  module _ (free : bitOf bits e ≡ false) where
+    pub added-in : bitOf (added bits e) e ≡ true
+    added-in = rw same (added-here (byteOf bits (e / 8)) (e % 8) free)
 
-  -- a bit that was not added
-  left-here : eqb (x / 2 ^ k % 2) 1 ≡ false
-  left-here = rw (div-eq-of-lt h)
+    pub added-still : (i : ℕ) → (i ≡ e → ⊥) → bitOf (added bits e) i ≡ bitOf bits i
+    added-still i z = go (eqb (i / 8) (e / 8)) refl
+      where
+        go : (t : Bool) → eqb (i / 8) (e / 8) ≡ t → bitOf (added bits e) i ≡ bitOf bits i
+        go true q =
+            let s = eqb-true (i / 8) (e / 8) q in
+            rw (s, same) (ap (λ y. eqb y 1) (added-other (byteOf bits (e / 8)) (e % 8) free (i % 8) (λ m. z (omega (arith, s, m)))))
+        go false q = ap (λ y. eqb (y / 2 ^ (i % 8) % 2) 1) (other (i / 8) (eqb-false (i / 8) (e / 8) q))
 
 -- A SET WITHOUT ENTRIES from e on, and with e
 module _ (bits : List ℕ) (e : ℕ) (n : EndsBefore e bits) where
-  abbrev added : List ℕ
-  added = set bits (e / 8) (byteOf bits (e / 8) + 2 ^ (e % 8))
-
   pub left-out : bitOf bits e ≡ false
   left-out = left-here (byteOf bits (e / 8)) (e % 8) (n .byte)
 
@@ -71,29 +66,14 @@ module _ (bits : List ℕ) (e : ℕ) (n : EndsBefore e bits) where
   pub ends-left : EndsBefore (e + 1) bits
   ends-left = next-byte bits (omega (arith, n .byte, pow-suc 2 (e % 8), ap (λ i. 2 ^ i) (add-one (e % 8)))) (n .later)
 
-  module _ (room : e / 8 < length bits) where
-    same : byteOf added (e / 8) ≡ byteOf bits (e / 8) + 2 ^ (e % 8)
-    same = getD-set-same bits (e / 8) (byteOf bits (e / 8) + 2 ^ (e % 8)) 0 room
+  ends-added : e / 8 < length bits → EndsBefore (e + 1) (added bits e)
+  ends-added room =
+      next-byte (added bits e) (omega (arith, same bits e room, n .byte, pow-suc 2 (e % 8), ap (λ i. 2 ^ i) (add-one (e % 8))))
+      (λ i l. other bits e room i (λ q. omega arith) ∙ n .later i l)
 
-    other : (i : ℕ) → (i ≡ e / 8 → ⊥) → byteOf added i ≡ byteOf bits i
-    other i z = getD-set-other bits (e / 8) i (byteOf bits (e / 8) + 2 ^ (e % 8)) 0 z
-
-    pub added-in : bitOf added e ≡ true
-    added-in = rw same (added-here (byteOf bits (e / 8)) (e % 8) (n .byte))
-
-    pub added-still : (i : ℕ) → i < e → bitOf added i ≡ bitOf bits i
-    added-still i l = go (eqb (i / 8) (e / 8)) refl
-      where
-        go : (t : Bool) → eqb (i / 8) (e / 8) ≡ t → bitOf added i ≡ bitOf bits i
-        go true q =
-            let s = eqb-true (i / 8) (e / 8) q in
-            let m : i % 8 < e % 8 = omega (arith, s) in
-            rw (s, same) (ap (λ y. eqb y 1) (added-below (byteOf bits (e / 8)) (e % 8) (n .byte) (i % 8) m))
-        go false q = ap (λ y. eqb (y / 2 ^ (i % 8) % 2) 1) (other (i / 8) (eqb-false (i / 8) (e / 8) q))
-
-    pub ends-added : EndsBefore (e + 1) added
-    ends-added =
-        next-byte added (omega (arith, same, n .byte, pow-suc 2 (e % 8), ap (λ i. 2 ^ i) (add-one (e % 8)))) (λ i l. other i (λ q. omega arith) ∙ n .later i l)
+-- a set of 8,192 bytes has a bit for each line
+pub set-room : {lines m : ℕ} → lines ≤ 65535 → m ≡ 8192 → lines / 8 < m
+set-room h e = omega arith
 
 getD-zeros : (n i : ℕ) → byteOf (replicate n 0) i ≡ 0
 getD-zeros zero i = refl
@@ -171,10 +151,13 @@ module _ {list : List ℕ} {n count : ℕ} {before bits : List ℕ} {last i : �
     adding-high l = (sym (turn ∙ rising-high last count entry (drop (i + 1) (take n list)) l), refused count (take n list) before bits (c .long))
 
     module _ (l : last < entry) (m : entry ≤ count) where
-      pub adding-ends : EndsBefore entry bits
+      adding-ends : EndsBefore entry bits
       adding-ends =
           let s : last + 1 + (entry - (last + 1)) ≡ entry = omega arith in
           rw s at (ends-later bits (last + 1) (entry - (last + 1)) (c .ends))
+
+      pub adding-free : bitOf bits entry ≡ false
+      adding-free = left-out bits entry adding-ends
 
       pub adding-space : entry / 8 < length bits
       adding-space = omega (arith, c .space)
@@ -189,9 +172,9 @@ module _ {list : List ℕ} {n count : ℕ} {before bits : List ℕ} {last i : �
           let s : p + 1 ≡ entry = omega arith in
           let m : last + (p - last) ≡ p = omega arith in
           let still = keep-agree (bitOf more) (bitOf bits) (upTo p)
-          (all-weaker (λ e. (0 < e) × (e ≤ p)) (λ e. bitOf more e ≡ bitOf bits e) (λ e l. added-still bits entry adding-ends adding-space e (omega (arith, l .1, s))) (upTo p) (rising-within p (upTo p) (upTo-rising p))) in
+          (all-weaker (λ e. (0 < e) × (e ≤ p)) (λ e. bitOf more e ≡ bitOf bits e) (λ e l. added-still bits entry adding-space adding-free e (λ q. omega (arith, l .1, s))) (upTo p) (rising-within p (upTo p) (upTo-rising p))) in
           let before = still ∙ ap (λ k. keep (bitOf bits) (upTo k)) (sym m) ∙ none-later bits last (p - last) (c .ends) ∙ c .has in
-          let here : bitOf more (p + 1) ≡ true = rw s (added-in bits entry adding-ends adding-space) in
+          let here : bitOf more (p + 1) ≡ true = rw s (added-in bits entry adding-space adding-free) in
           ap (λ k. keep (bitOf more) (upTo k)) (sym s) ∙ upTo-kept (bitOf more) p here ∙ rw (before, s, add-one i, take-suc list i 0 (omega (arith, c .room)))
 
       pub adding-more : Adding list n count before more entry (i + 1)
@@ -229,8 +212,8 @@ module _ {test : ℕ → Bool} {n : ℕ} {bits : List ℕ} (h : Holds test n bit
   holds-out t = record { has = below bits (λ i l. refl) (left-out bits (n + 1) (h .ends) ∙ sym t); ends = ends-left bits (n + 1) (h .ends) }
 
   pub holds-in : (n + 1) / 8 < length bits → test (n + 1) ≡ true → Holds test (n + 1) (set bits ((n + 1) / 8) (byteOf bits ((n + 1) / 8) + 2 ^ ((n + 1) % 8)))
-  holds-in room t = record {
-    has = below (added bits (n + 1) (h .ends)) (added-still bits (n + 1) (h .ends) room) (added-in bits (n + 1) (h .ends) room ∙ sym t);
+  holds-in room t = let free = left-out bits (n + 1) (h .ends) in record {
+    has = below (added bits (n + 1)) (λ i l. added-still bits (n + 1) room free i (λ q. omega arith)) (added-in bits (n + 1) room free ∙ sym t);
     ends = ends-added bits (n + 1) (h .ends) room;
   }
 
@@ -299,3 +282,7 @@ all-listed bytes n h =
     (all-weaker (λ e. (0 < e) × (e ≤ n)) (λ e. bitOf (replicate bytes 255) e ≡ true)
     (λ e l. rw (getD-replicate {A = ℕ} bytes (e / 8) 255 0 (omega (arith, l .1))) (all-bits (e % 8) (omega arith))) (upTo n) (rising-within n (upTo n) (upTo-rising n)))
     ∙ keep-every (upTo n)
+
+-- A SET WITH A BIT for each entry of a list
+pub inside : (count : ℕ) (k : List ℕ) → All (λ e. (0 < e) × (e ≤ count)) k → {m : ℕ} → count / 8 < m → All (λ e. e / 8 < m) k
+inside count k a {m} h = all-weaker (λ e. (0 < e) × (e ≤ count)) (λ e. e / 8 < m) (λ e w. omega (arith, w .1, h)) k a

@@ -6,7 +6,7 @@ use mathlib.Core.Bool.{Bool, true}
 use lib.Dec.{eqb}
 use lib.ListN.{length, getD}
 use Rattle.format.specs.Format.{keep}
-use Rattle.narrowing.specs.Narrowing.{upTo}
+use Rattle.narrowing.specs.Narrowing.{upTo, has}
 
 abbrev pub byteOf : List ℕ → ℕ → ℕ
 byteOf bits i = getD bits i 0
@@ -28,3 +28,13 @@ pub record Holds (test : ℕ → Bool) (n : ℕ) (bits : List ℕ) : Type 0 wher
 pub record Lists (rises : Bool) (count : ℕ) (entries before after : List ℕ) : Type 0 where
   pub long : length after ≡ length before
   pub has : rises ≡ true → keep (bitOf after) (upTo count) ≡ entries
+
+-- there is a bit for each of 1 to count, and of these the set has the ones that stand in a list, in any order
+pub record Marks (count : ℕ) (entries bits : List ℕ) : Type 0 where
+  pub room : count / 8 < length bits
+  pub is : (e : ℕ) → 0 < e → e ≤ count → bitOf bits e ≡ has e entries
+
+-- The lent set is as long as before, and if none is twice its entries in 1 to count are these.
+pub record ListsApart (apart : Bool) (count : ℕ) (entries before after : List ℕ) : Type 0 where
+  pub long : length after ≡ length before
+  pub marks : apart ≡ true → Marks count entries after

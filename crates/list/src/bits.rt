@@ -1,11 +1,12 @@
 // A set of entries in 1 to 65,535, one bit for each: entry e is bit e % 8 of byte e / 8.
 ghost use mathlib.Core.Path.{_≡_};
 ghost use mathlib.Core.List.{_++_};
-ghost use Prim.Native.Nat.{_+_, _*_, _/_, _%_, _^_, _≤_, _<_};
+ghost use mathlib.Core.Bool.{false, not};
+ghost use Prim.Native.Nat.{_+_, _/_, _%_, _^_, _≤_, _<_};
 ghost use lib.ListN.{length, getD, take, drop, set as setAt};
 ghost use Rattle.format.specs.Format.{All, keep};
-ghost use Rattle.narrowing.specs.Narrowing.{upTo, rising, listed, filled};
-ghost use Rattle.list.specs.Bits.{bitOf, EndsBefore, Lists};
+ghost use Rattle.narrowing.specs.Narrowing.{upTo, rising, distinct, listed, firstBad, filled};
+ghost use Rattle.list.specs.Bits.{bitOf, EndsBefore, Lists, ListsApart};
 
 // The bytes of a set, and one that has all eight entries.
 pub const BYTES: usize = 8192;
@@ -20,9 +21,9 @@ pub fn has(bits: &[u8], e: usize) -> bool
     (bits[e / 8] >> (e % 8)) % 2 == 1
 }
 
-// Adds an entry to a set that has none from it on.
+// Adds an entry to a set that does not have it.
 pub fn add(bits: &mut [u8], e: usize)
-    requires { ⌜ (e / 8 < length (now bits)) × (getD (now bits) (e / 8) 0 < 2 ^ (e % 8)) ⌝ }
+    requires { ⌜ (e / 8 < length (now bits)) × (bitOf (now bits) e ≡ false) ⌝ }
     ensures { λ _. ⌜ now (bits .exit) ≡ setAt (now (bits .entry)) (e / 8) (getD (now (bits .entry)) (e / 8) 0 + 2 ^ (e % 8)) ⌝ }
 {
     let bit: u8 = 1 << (e % 8);
@@ -53,6 +54,49 @@ pub fn add_rising(list: &[u16], n: usize, count: usize, bits: &mut [u8]) -> bool
         i += 1;
     }
     true
+}
+
+// Says whether n is within the list and its first n entries are in 1 to count, none twice. If so, they are added to a set that has none.
+pub fn add_distinct(list: &[u16], n: usize, count: usize, bits: &mut [u8]) -> bool
+    requires { ⌜ (count / 8 < length (now bits)) × EndsBefore 1 (now bits) ⌝ }
+    ensures apart { λ r. ⌜ r ≡ listed (distinct count) (now (list .entry)) n ⌝ }
+    ensures lists { λ r. ⌜ ListsApart r count (take n (now (list .entry))) (now (bits .entry)) (now (bits .exit)) ⌝ }
+{
+    if list.len() < n {
+        return false;
+    }
+    let mut i: usize = 0;
+    while i < n {
+        let entry = list[i] as usize;
+        if entry == 0 {
+            return false;
+        }
+        if count < entry {
+            return false;
+        }
+        if has(bits, entry) {
+            return false;
+        }
+        add(bits, entry);
+        i += 1;
+    }
+    true
+}
+
+// The first of the first n entries that the set has, or 0.
+pub fn first_of(list: &[u16], n: usize, bits: &[u8]) -> usize
+    requires { ⌜ (n ≤ length (now list)) × All (λ e. e / 8 < length (now bits)) (take n (now list)) ⌝ }
+    ensures { λ r. ⌜ r ≡ firstBad (λ e. not (bitOf (now (bits .entry)) e)) (take n (now (list .entry))) ⌝ }
+{
+    let mut i: usize = 0;
+    while i < n {
+        let e = list[i] as usize;
+        if has(bits, e) {
+            return e;
+        }
+        i += 1;
+    }
+    0
 }
 
 // Writes those of entries 1 to n that the set has in front.

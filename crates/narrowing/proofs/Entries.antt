@@ -9,7 +9,7 @@ use native.Mathlib.Omega.{arith}
 use lib.ListN.{length, length-append}
 use Rattle.format.specs.Format.{choose, keep}
 use Rattle.narrowing.specs.Narrowing.{entriesFrom, upTo}
-use Rattle.narrowing.proofs.Keeping.{keep-length, keep-more}
+use Rattle.format.proofs.Keeping.{keep-length, keep-more}
 use Rattle.narrowing.proofs.Rising.{upTo-length, upTo-last}
 
 module _ (test : ℕ → Bool) (e : ℕ) where

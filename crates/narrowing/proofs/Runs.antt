@@ -15,7 +15,7 @@ use Rattle.narrowing.specs.declared.Narrowed.{Narrowed}
 use Rattle.narrowing.specs.Narrowing.{answerOf, filled, listAfter}
 use Rattle.narrowing.specs.Run.{Ended, nextCount, answering, run, total, refusalOf, told}
 use Rattle.narrowing.proofs.Filled.{filled-whole, filled-again}
-use Rattle.narrowing.proofs.Keeping.{keep-length, keep-keep, keep-every}
+use Rattle.format.proofs.Keeping.{keep-length, keep-keep, keep-every}
 use Rattle.narrowing.specs.Form.{asks, left, plain, Form, FormLaws, Fill, FillLaws, runOn, leftOf, Demand3}
 
 -- ONE CALL, by a query on good entries k

@@ -1,7 +1,7 @@
 -- One narrowing call (document 01, "The dictionary and its list", "Refusal numbers"), over what its query, dictionary and lines come to.
 use Prim.Native.Nat.{ℕ, zero, suc, _-_}
 use mathlib.Core.List.{List, [], _∷_, _++_}
-use mathlib.Core.Bool.{Bool, true, _&&_}
+use mathlib.Core.Bool.{Bool, true, false, not, _&&_, _||_}
 use lib.Dec.{eqb, ltb, leb}
 use lib.ListN.{length, take, drop, replicate}
 use Rattle.format.specs.Format.{choose, keep}
@@ -25,6 +25,16 @@ risingOver last count (e ∷ entries) = ltb last e && (leb e count && risingOver
 -- strictly rising in 1 to count
 abbrev pub rising : ℕ → List ℕ → Bool
 rising count entries = risingOver 0 count entries
+
+-- an entry stands in a list
+unfoldable pub has : ℕ → List ℕ → Bool
+has e [] = false
+has e (i ∷ entries) = eqb i e || has e entries
+
+-- each in 1 to count and none twice, in any order (document 02, Q-12)
+unfoldable pub distinct : ℕ → List ℕ → Bool
+distinct count [] = true
+distinct count (e ∷ entries) = (ltb 0 e && leb e count) && (not (has e entries) && distinct count entries)
 
 -- n is within the list, and its first n entries pass the test of a list
 unfoldable pub listed : (List ℕ → Bool) → List ℕ → ℕ → Bool

@@ -1,7 +1,7 @@
 -- The query and the dictionary as parts of the input.
 use Prim.Native.Nat.{ℕ, suc, _+_, _-_, _≤_, _<_}
 use mathlib.Core.Path.{_≡_, refl, sym, ap, _∙_}
-use mathlib.Core.List.{List, [], _∷_}
+use mathlib.Core.List.{List, [], _∷_, _++_}
 use mathlib.Core.Bool.{Bool, true, false}
 use native.Mathlib.Numerals.{add-one}
 use native.Mathlib.Omega.{arith}
@@ -11,7 +11,8 @@ use lib.Seq.{take-all, length-take-le}
 use Rattle.format.specs.Format.{choose}
 use Rattle.lines.specs.Lines.{firstLine}
 use Rattle.token.specs.Wrote.{Wrote}
-use Rattle.report.specs.Report.{queryIn, dictionaryIn, searchText, outputOf, Part}
+use Rattle.writer.proofs.Writes.{wrote-as, wrote-all}
+use Rattle.report.specs.Report.{queryIn, dictionaryIn, Part}
 
 query-part : (x : List ℕ) → (length (firstLine x) ≤ length x) × (take (length (firstLine x)) x ≡ firstLine x)
 unfolding firstLine
@@ -23,42 +24,37 @@ query-part (b ∷ x) = go (eqb b 10) (query-part x)
     go true p = (omega arith, refl)
     go false p = (omega arith, ap (λ l. b ∷ l) (p .1))
 
--- where the query ends, and where the dictionary starts
-pub record Split (x : List ℕ) (end start : ℕ) : Type 0 where
-  pub ends : end ≤ length x
-  pub starts : start ≤ length x
-  pub query : take end x ≡ queryIn x
-  pub dictionary : drop start x ≡ dictionaryIn x
+to-end : (x : List ℕ) (a : ℕ) → take (length x - a) (drop a x) ≡ drop a x
+to-end x a = take-all (length x - a) (drop a x) (omega (arith, length-drop a x))
+
+pub record DictionaryAt (x : List ℕ) (start : ℕ) : Type 0 where
+  pub within : start ≤ length x
+  pub dictionary : take (length x - start) (drop start x) ≡ dictionaryIn x
 
 module _ (x : List ℕ) (e : ℕ) (h : e ≡ 0 + length (firstLine x)) where
   end-is : e ≡ length (firstLine x)
   end-is = omega arith
 
-  pub line-ended : e < length x → Split x e (e + 1)
-  line-ended l = record {
-    ends = omega arith;
-    starts = omega arith;
-    query = rw end-is (query-part x .1);
-    dictionary = rw (add-one, end-is);
-  }
+  pub query-is : (e ≡ length (take e x)) × (take e x ≡ queryIn x)
+  query-is = (sym (length-take-le e x (omega (arith, query-part x .0))), rw end-is (query-part x .1))
 
-  pub no-dictionary : length x ≤ e → Split x e e
+  -- where the dictionary starts
+  pub line-ended : e < length x → DictionaryAt x (e + 1)
+  line-ended l = record { within = omega arith; dictionary = to-end x (e + 1) ∙ rw (add-one, end-is) }
+
+  pub no-dictionary : length x ≤ e → DictionaryAt x e
   no-dictionary l = record {
-    ends = omega (arith, query-part x .0);
-    starts = omega (arith, query-part x .0);
-    query = rw end-is (query-part x .1);
-    dictionary = drop-of-length-le x l ∙ sym (drop-of-length-le x {i = suc (length (firstLine x))} (omega arith));
+    within = omega (arith, query-part x .0);
+    dictionary = to-end x e ∙ drop-of-length-le x l ∙ sym (drop-of-length-le x {i = suc (length (firstLine x))} (omega arith));
   }
 
-to-end : (x : List ℕ) (a : ℕ) → take (length x - a) (drop a x) ≡ drop a x
-to-end x a = take-all (length x - a) (drop a x) (omega (arith, length-drop a x))
+-- a text of the two, once it is written
+module _ (text : List ℕ → List ℕ → List ℕ) (x : List ℕ) where
+  abbrev whole : List ℕ
+  whole = text (queryIn x) (dictionaryIn x)
 
-pub part-is : {o p : List ℕ} {r : ℕ} {text : List ℕ} → Wrote o p 0 r text → Part r p
-part-is {p = p} {r} w =
-    let room : r ≤ length p = omega arith in
-    (room, sym (length-take-le r p room))
-
-module _ {x : List ℕ} {end start : ℕ} (s : Split x end start) where
-  pub same-text : searchText (take end x) (take (length x - start) (drop start x)) ≡ outputOf x
-  unfolding outputOf
-  same-text = rw (s .query, to-end x start, s .dictionary)
+  pub answered : {q d o p : List ℕ} {r : ℕ} → q ≡ queryIn x → d ≡ dictionaryIn x → Wrote o p 0 r (text q d)
+      → Part r p × ((r ≡ length whole) × (p ≡ whole ++ drop (length whole) o))
+  answered {p = p} {r} e f w =
+      let room : r ≤ length p = omega arith in
+      ((room, sym (length-take-le r p room)), wrote-all (wrote-as w (λ i. text (e i) (f i))))

@@ -14,7 +14,7 @@ use Rattle.lines.specs.Lines.{lines}
 use Rattle.entries.specs.Entries.{entriesOf}
 use Rattle.entries.specs.Judging.{meets}
 use Rattle.dictionary.specs.SearchLaws.{opening}
-use Rattle.report.specs.Report.{within, refusalText, foundText, searchText, outputOf}
+use Rattle.report.specs.Report.{within, refusalText, foundText, foundWithin, searchText, arrangedIn, sortedText, outputOf, sortedOutputOf}
 
 pub record ProgramLaws : Type 0 where
   -- a query that is refused gives its own refusal, whatever the dictionary
@@ -28,3 +28,16 @@ pub record ProgramLaws : Type 0 where
       → searchText query dict ≡ foundText (length (lines dict)) (keep (meets Fsw dict q) (entriesOf dict))
   -- the first 50,178 bytes of any input are answered as all of it: one more than the largest that is within the sizes
   pub enough : (input : List ℕ) → outputOf (take 50178 input) ≡ outputOf input
+
+-- the same in dictionary order (document 02, Q-12)
+pub record SortedLaws : Type 0 where
+  -- it is refused as the search program is, in the same words
+  pub refused : (query dict : List ℕ) (number place : ℕ) → foundWithin query dict ≡ refusal number place → sortedText query dict ≡ searchText query dict
+  -- and finds the same entries, in order
+  pub found : (query dict entries : List ℕ) → foundWithin query dict ≡ done entries
+      → (searchText query dict ≡ foundText (length (lines dict)) entries)
+      × (sortedText query dict ≡ foundText (length (lines dict)) (arrangedIn dict entries))
+  -- those whose signs meet the query
+  pub sorted : (query dict : List ℕ) (q : Query) → within query dict ≡ true → queryOf First query ≡ done q → opening Fsw dict ≡ done (entriesOf dict)
+      → sortedText query dict ≡ foundText (length (lines dict)) (arrangedIn dict (keep (meets Fsw dict q) (entriesOf dict)))
+  pub enough : (input : List ℕ) → sortedOutputOf (take 50178 input) ≡ sortedOutputOf input

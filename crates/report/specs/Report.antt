@@ -5,13 +5,15 @@ use mathlib.Core.List.{List, _++_}
 use mathlib.Core.Bool.{Bool, _&&_}
 use lib.Dec.{leb}
 use lib.ListN.{length, take, drop}
-use Rattle.format.specs.Format.{choose}
 use Rattle.charset.specs.Bytes.{ascii}
 use Rattle.charset.specs.declared.Charset.the-variants.{Fsw}
 use Rattle.token.specs.Refusal.{tooMany}
-use Rattle.token.specs.Result.{Result, refusal, done}
+use Rattle.token.specs.Result.{Result, refusal, done, onDone, check}
 use Rattle.querygrammar.specs.declared.Edition.the-variants.{First}
 use Rattle.lines.specs.Lines.{lines, firstLine}
+use Rattle.arrangement.specs.Arranged.{arranged}
+use Rattle.books.specs.Book.{bookOf}
+use Rattle.books.specs.Sorting.{entryBefore}
 use Rattle.dictionary.specs.Search.{found}
 use Rattle.keylines.specs.Text.{keyLine, entryLines}
 
@@ -40,13 +42,27 @@ resultText n (refusal number place) = refusalText number place
 resultText n (done entries) = foundText n entries
 
 -- 14 before all else, then what a search by a query of the first edition comes to: the query's refusals before the dictionary's
+unfoldable pub foundWithin : List ℕ → List ℕ → Result (List ℕ)
+foundWithin query dict = check (within query dict) tooMany 0 (found Fsw dict (First, query))
+
+-- and what is told of it
 unfoldable pub searchText : List ℕ → List ℕ → List ℕ
-searchText query dict =
-    choose (within query dict) (resultText (length (lines dict)) (found Fsw dict (First, query))) (refusalText tooMany 0)
+searchText query dict = resultText (length (lines dict)) (foundWithin query dict)
+
+-- entries in dictionary order
+abbrev pub arrangedIn : List ℕ → List ℕ → List ℕ
+arrangedIn dict entries = arranged (entryBefore (bookOf (Fsw, dict))) entries
+
+-- what is told with the entries in that order (document 02, Q-12)
+unfoldable pub sortedText : List ℕ → List ℕ → List ℕ
+sortedText query dict = resultText (length (lines dict)) (onDone (arrangedIn dict) (foundWithin query dict))
 
 -- the whole output
 unfoldable pub outputOf : List ℕ → List ℕ
 outputOf input = searchText (queryIn input) (dictionaryIn input)
+
+unfoldable pub sortedOutputOf : List ℕ → List ℕ
+sortedOutputOf input = sortedText (queryIn input) (dictionaryIn input)
 
 -- n counts bytes at the start of a memory. The second fact follows from the first; callers that lend the part ask for both.
 abbrev pub Part : ℕ → List ℕ → Type 0

@@ -40,7 +40,7 @@ claim first =
     (search-fill first)
 
 -- what the accepted queries ask of an entry is that its line meets each
-asks-each : (set : Charset) (dict : List ℕ) (e : ℕ) (queries : List Asked)
+pub asks-each : (set : Charset) (dict : List ℕ) (e : ℕ) (queries : List Asked)
     → every (λ query. Form.asks (testOf set dict query) e) queries ≡ meetsEach set (keep isAccepted queries) (lineOf dict e)
 unfolding meetsEach keep verdictIn
 asks-each set dict e [] = refl
@@ -61,7 +61,7 @@ module _ (set : Charset) (dict : List ℕ) where
   unfolding meeting
   meeting-rises queries = rising-keep (λ e. meetsEach set (keep isAccepted queries) (lineOf dict e)) 0 (length (lines dict)) (entriesOf dict) (upTo-rising (length (lines dict)))
 
-  refusal-own : (query : Asked) → refusalOf (testOf set dict query) ≡ ownRefusal query
+  pub refusal-own : (query : Asked) → refusalOf (testOf set dict query) ≡ ownRefusal query
   unfolding refusalOf readingOf
   refusal-own query = go (queryAsked query)
     where
@@ -71,7 +71,7 @@ module _ (set : Charset) (dict : List ℕ) where
 
 -- what a search by `first` left is a run by it, with all entries before it
 module _ (set : Charset) (dict : List ℕ) (first : Asked) where
-  left-first : (queries : List Asked) → Form.left (testOf set dict) (metIn (testOf set dict first) (bookOf (set, dict))) queries ≡ meeting set dict (first ∷ queries)
+  pub left-first : (queries : List Asked) → Form.left (testOf set dict) (metIn (testOf set dict first) (bookOf (set, dict))) queries ≡ meeting set dict (first ∷ queries)
   left-first queries = Runs.left-more (testOf set dict) first queries (entriesOf dict) ∙ left-meeting set dict (first ∷ queries)
 
   pub written-is : (list : List ℕ) → Searches set dict list first → length (metIn (testOf set dict first) (bookOf (set, dict))) ≡ writtenBy set dict list first

@@ -14,7 +14,7 @@ use Rattle.narrowing.specs.declared.Narrowed.{Narrowed}
 use Rattle.narrowing.specs.Narrowing.{notNarrowed}
 use Rattle.narrowing.specs.Run.{Ended, run, total}
 use Rattle.narrowing.specs.Form.{asks}
-use Rattle.narrowing.proofs.Keeping.{keep-length}
+use Rattle.format.proofs.Keeping.{keep-length}
 use Rattle.narrowing.proofs.Rising.{upTo-length}
 use Rattle.entries.specs.Entries.{entriesOf}
 use Rattle.searching.specs.declared.Searched.{Searched}

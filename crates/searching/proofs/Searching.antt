@@ -16,7 +16,7 @@ use Rattle.lines.specs.Lines.{lines as linesOf, lineOf}
 use Rattle.lines.specs.Checked.{lineCount, countedAs}
 use Rattle.lines.proofs.Counts.{count-whole, count-refused, count-done}
 use Rattle.narrowing.specs.Narrowing.{upTo}
-use Rattle.narrowing.proofs.Keeping.{keep-keep, keep-every}
+use Rattle.format.proofs.Keeping.{keep-keep, keep-every}
 use Rattle.narrowing.proofs.Rising.{upTo-length}
 use Rattle.list.specs.Bits.{bitOf}
 use Rattle.list.proofs.Sets.{holds-keeps}

@@ -21,7 +21,13 @@ use Rattle.verdict.specs.Verdict.{verdictOn, verdictIn}
 use Rattle.bounds.specs.Boxes.{grownAll, groupsOf}
 use Rattle.bounds.specs.Sizes.{firstUnsized, measured}
 use Rattle.moving.specs.Moves.{movedSign, centredSign, centredText}
-use Rattle.starred.specs.Starred.{StarredRows, OtherRows, NumberRows, CentringRows, OffsetRows, StylingRows, EditionRows}
+use Rattle.lines.specs.Lines.{bytesOf, lines, ended, lineOf}
+use Rattle.narrowing.specs.Narrowing.{listed, has, distinct, firstBad}
+use Rattle.arrangement.specs.Prefixes.{lessCodes, prefixBefore}
+use Rattle.arrangement.specs.Arranged.{insert, arranged}
+use Rattle.books.specs.Sorting.{entryBefore, sortedIn}
+use Rattle.sorting.specs.Sorting.{sorted}
+use Rattle.starred.specs.Starred.{StarredRows, OtherRows, NumberRows, CentringRows, OffsetRows, StylingRows, EditionRows, SortingRows}
 
 pub starred : StarredRows
 unfolding codeRead codeText digitOf markerOf signOf queryOf verdictIn verdictOn verdictOf prefixHolds satisfies satisfiesOne judged witnessesOf serves centredText centredSign measured firstUnsized groupsOf keep grownAll movedSign
@@ -191,3 +197,7 @@ editions = record {
   nearInSwu = refl;
   farInSwu = refl;
 }
+
+pub sortings : SortingRows
+unfolding bytesOf lines ended lineOf signOf digitOf markerOf sorted sortedIn listed has distinct firstBad entryBefore prefixBefore lessCodes insert arranged
+sortings = record { six = refl; spare = refl; twice = refl; absent = refl; beyond = refl; short = refl }

@@ -4,7 +4,7 @@ use Prim.Native.Nat.{ℕ}
 use mathlib.Core.Path.{_≡_}
 use mathlib.Core.List.{List, [], _∷_, _++_}
 use mathlib.Core.Option.{none, some}
-use lib.ListN.{length, take}
+use lib.ListN.{length, take, replicate}
 use Rattle.charset.specs.declared.Charset.{Charset}
 use Rattle.charset.specs.declared.Charset.the-variants.{Fsw, Swu}
 use Rattle.charset.specs.Bytes.{ascii, utf8}
@@ -26,6 +26,9 @@ use Rattle.matching.specs.Meets.{unmet, met, answered}
 use Rattle.verdict.specs.Verdict.{verdictIn}
 use Rattle.bounds.specs.Boxes.{widthOf, heightOf}
 use Rattle.moving.specs.Moves.{centredText}
+use Rattle.lines.specs.Lines.{bytesOf}
+use Rattle.books.specs.Sorting.{listAfter, spareAfter}
+use Rattle.sorting.specs.Sorting.{sorted}
 
 abbrev pub K : List ℕ
 K = ascii "AS10000S20500M510x515S10000490x485S20500500x495"
@@ -212,3 +215,18 @@ pub record EditionRows : Type 0 where
   pub bases : verdictIn Fsw (Second Swu, ascii "QR" ++ (utf8 0x40002 ++ utf8 0x40001)) K ≡ answered (met (1 ∷ []))
   pub nearInSwu : verdictIn Fsw (Second Swu, ascii "Q" ++ (utf8 0x40001 ++ (ascii "fr" ++ (utf8 0x1d8fc ++ utf8 0x1d90b)))) K ≡ answered (met (1 ∷ []))
   pub farInSwu : verdictIn Fsw (Second Swu, ascii "Q" ++ (utf8 0x40001 ++ (ascii "fr" ++ (utf8 0x1d8fc ++ utf8 0x1d90c)))) K ≡ answered (unmet 1)
+
+-- document 02, Q-12: lines 1 to 6 have no prefix, S20500, S10000 and S20500, S10000, null, S10000
+abbrev pub sixWords : List ℕ
+sixWords = bytesOf (ascii "M500x500" ∷ ascii "AS20500M500x500" ∷ ascii "AS10000S20500M500x500" ∷ ascii "AS10000M500x500" ∷ ascii "AS00000M500x500" ∷ ascii "AS10000M500x500" ∷ [])
+
+abbrev pub sixListed : List ℕ
+sixListed = 1 ∷ 2 ∷ 3 ∷ 4 ∷ 5 ∷ 6 ∷ 77 ∷ []
+
+pub record SortingRows : Type 0 where
+  pub six : listAfter sixListed 6 (sorted Fsw sixWords sixListed 6 (replicate 8 9)) ≡ 5 ∷ 4 ∷ 6 ∷ 3 ∷ 2 ∷ 1 ∷ 77 ∷ []
+  pub spare : spareAfter (replicate 8 9) 6 (sorted Fsw sixWords sixListed 6 (replicate 8 9)) ≡ 0 ∷ 0 ∷ 0 ∷ 0 ∷ 0 ∷ 0 ∷ 9 ∷ 9 ∷ []
+  pub twice : sorted Fsw sixWords (1 ∷ 2 ∷ 3 ∷ 2 ∷ []) 4 (replicate 8 9) ≡ refusal 11 0
+  pub absent : sorted Fsw sixWords (1 ∷ 7 ∷ []) 2 (replicate 8 9) ≡ refusal 11 0
+  pub beyond : sorted Fsw sixWords (1 ∷ 2 ∷ []) 3 (replicate 8 9) ≡ refusal 11 0
+  pub short : sorted Fsw sixWords (3 ∷ 1 ∷ 2 ∷ []) 3 (replicate 2 9) ≡ refusal 6 3

@@ -264,6 +264,27 @@ fn narrow(dictionary: &Dictionary, set: Charset, asked: Asked, list: &mut [u16],
     answer[2]
 }
 
+/// The library narrows the same list, which rises, as one in any order.
+pub fn narrow_sorted_library(dictionary: &Dictionary, set: Charset, asked: Asked) -> Pass {
+    let swu = set == Charset::Swu;
+    let (second, query_swu) = asked.flags();
+    let mut list = full_list(dictionary);
+    timed(|| {
+        let mut answer = [0; 4];
+        let (dict, dict_len) = (dictionary.text.as_ptr(), dictionary.text.len());
+        let (query, query_len) = (asked.query.as_ptr(), asked.query.len());
+        let (room, start) = (list.len(), list.as_mut_ptr());
+        unsafe {
+            let (n, answer) = (room, &mut answer);
+            raw::halofret_narrow_sorted(
+                swu, dict, dict_len, start, room, n, second, query_swu, query, query_len, answer,
+            )
+        };
+        black_box((&list, &answer));
+        answer[2]
+    })
+}
+
 pub fn narrow_reference(dictionary: &Dictionary, set: Charset, asked: Asked) -> Pass {
     let mut list = full_list(dictionary);
     timed(|| {

@@ -1,17 +1,21 @@
-//! Nanoseconds a line for the library and for the plain reference, as a Markdown table.
+//! Nanoseconds a line for the library and for the plain reference, as a Markdown table, and then
+//! one for sorting.
 //!
-//! `cargo run --release -p bench [-- [--quick] [--swu]]`: the two sides take turns over the same
-//! dictionary, and each line of the table has the best pass of many.
+//! `cargo run --release -p bench [-- [--quick] [--swu] [--sorting]]`: the two sides take turns over
+//! the same dictionary, and each line of a table has the best pass of many. With `--sorting` there
+//! is only the table for that.
 
 mod dictionary;
 mod editions;
 mod entries;
+mod sorting;
 mod styled;
 
 use dictionary::Dictionary;
 use editions::edition_rows;
 use entries::*;
 use reference::{Charset, Edition};
+use sorting::sorting_table;
 use std::time::{Duration, Instant};
 use styled::*;
 
@@ -30,8 +34,9 @@ const QUERIES: [&str; 5] = [
 fn main() {
     let words: Vec<String> = std::env::args().skip(1).collect();
     let has = |word: &str| words.iter().any(|given| given == word);
-    if let Some(word) = words.iter().find(|w| *w != "--quick" && *w != "--swu") {
-        eprintln!("{word} is not known here: only --quick and --swu are.");
+    let known = ["--quick", "--swu", "--sorting"];
+    if let Some(word) = words.iter().find(|word| !known.contains(&word.as_str())) {
+        eprintln!("{word} is not known here: only {} are.", known.join(", "));
         std::process::exit(2);
     }
     let time = Duration::from_millis(if has("--quick") { 40 } else { 800 });
@@ -40,12 +45,16 @@ fn main() {
     } else {
         Charset::Fsw
     };
-    println!("| {set:?} entry | lines | library ns/line | reference ns/line | ratio |");
-    println!("|---|--:|--:|--:|--:|");
-    for count in LINE_COUNTS {
-        let dictionary = Dictionary::new(set, count);
-        rows(&Bench { dictionary, time }, set);
+    if !has("--sorting") {
+        println!("| {set:?} entry | lines | library ns/line | reference ns/line | ratio |");
+        println!("|---|--:|--:|--:|--:|");
+        for count in LINE_COUNTS {
+            let dictionary = Dictionary::new(set, count);
+            rows(&Bench { dictionary, time }, set);
+        }
+        println!();
     }
+    sorting_table(set, time);
 }
 
 fn rows(bench: &Bench, set: Charset) {
@@ -71,7 +80,7 @@ fn rows(bench: &Bench, set: Charset) {
     edition_rows(bench, set);
 }
 
-/// One row stays inside the library, as its name tells.
+/// Rows that stay inside the library tell so by their names.
 fn dictionary_rows(bench: &Bench, set: Charset) {
     let b = &bench.dictionary;
     for query in QUERIES {
@@ -91,6 +100,13 @@ fn dictionary_rows(bench: &Bench, set: Charset) {
             &format!("narrow by `{query}`"),
             || narrow_library(b, set, in_first(query)),
             || narrow_reference(b, set, in_first(query)),
+        );
+    }
+    for query in ["Q", FEW_MEET] {
+        bench.row(
+            &format!("narrow_sorted by `{query}`, beside narrow of the same list"),
+            || narrow_sorted_library(b, set, in_first(query)),
+            || narrow_library(b, set, in_first(query)),
         );
     }
 }
@@ -129,8 +145,22 @@ struct Bench {
 }
 
 impl Bench {
-    /// Runs both in turn until the time is up, at least three times, and prints the best.
+    /// Prints the best of both.
     fn row(&self, name: &str, library: impl Fn() -> Pass, reference: impl Fn() -> Pass) {
+        let lines = self.dictionary.count();
+        let [library, reference] = self.best(name, library, reference);
+        let ratio = library / reference;
+        println!("| {name} | {lines} | {library:.1} | {reference:.1} | {ratio:.2} |");
+    }
+
+    /// Runs both in turn until the time is up, at least three times: the best in nanoseconds a
+    /// line.
+    fn best(
+        &self,
+        name: &str,
+        library: impl Fn() -> Pass,
+        reference: impl Fn() -> Pass,
+    ) -> [f64; 2] {
         let start = Instant::now();
         let mut best = [Duration::MAX; 2];
         let mut rounds = 0;
@@ -141,9 +171,7 @@ impl Bench {
             best = [best[0].min(library_time), best[1].min(reference_time)];
             rounds += 1;
         }
-        let lines = self.dictionary.count();
-        let [library, reference] = best.map(|time| time.as_nanos() as f64 / lines as f64);
-        let ratio = library / reference;
-        println!("| {name} | {lines} | {library:.1} | {reference:.1} | {ratio:.2} |");
+        let lines = self.dictionary.count() as f64;
+        best.map(|time| time.as_nanos() as f64 / lines)
     }
 }

@@ -384,7 +384,8 @@ pub fn search(
     })
 }
 
-/// Keeps those of the first `count` entries of the list that meet the query, zeros after them.
+/// Keeps those of the first `count` entries of the list that meet the query, zeros after them. The
+/// entries must rise.
 pub fn narrow(
     charset: Charset,
     dictionary: &[u8],
@@ -410,11 +411,90 @@ pub fn narrow(
             &mut answer,
         )
     };
-    Refusal::check(&answer)?;
+    narrowed(&answer)
+}
+
+fn narrowed(answer: &[u64; 4]) -> Result<Narrowed, Refusal> {
+    Refusal::check(answer)?;
     Ok(Narrowed {
         kept: answer[2] as usize,
         dropped: answer[3] as usize,
     })
+}
+
+/// Puts the first `count` entries of the list in dictionary order: by the temporal prefixes of
+/// their signs, symbol code by symbol code, a shorter prefix before those that go on after it,
+/// signs without prefix last, and equal prefixes as they stood. Null has code 0.
+///
+/// The entries may stand in any order, each once. The spare list needs `count` places too, which
+/// hold zeros afterwards. [`Found::sort`] keeps the count and the order for the narrowing that
+/// follows.
+///
+/// ```
+/// use halofret::{sort, Charset};
+///
+/// let dictionary = b"M500x500\nAS20500M500x500\nAS10000S20500M500x500\nAS10000M500x500\n";
+/// let (mut list, mut spare) = ([1, 2, 3, 4, 77], [9; 5]);
+/// sort(Charset::Fsw, dictionary, &mut list, 4, &mut spare)?;
+/// assert_eq!(list, [4, 3, 2, 1, 77]);
+/// assert_eq!(spare, [0, 0, 0, 0, 9]);
+///
+/// let refusal = sort(Charset::Fsw, dictionary, &mut list, 4, &mut spare[..3]).unwrap_err();
+/// assert_eq!((refusal.number, refusal.place), (6, 4));
+/// # Ok::<(), halofret::Refusal>(())
+/// ```
+pub fn sort(
+    charset: Charset,
+    dictionary: &[u8],
+    list: &mut [u16],
+    count: usize,
+    spare: &mut [u16],
+) -> Result<(), Refusal> {
+    let mut answer = [0; 2];
+    unsafe {
+        raw::halofret_sort(
+            charset.is_swu(),
+            dictionary.as_ptr(),
+            dictionary.len(),
+            list.as_mut_ptr(),
+            list.len(),
+            count,
+            spare.as_mut_ptr(),
+            spare.len(),
+            &mut answer,
+        )
+    };
+    Refusal::check(&answer)
+}
+
+/// Does as [`narrow`] does with entries in any order, each once, and keeps them in it: so a list
+/// stays sorted, which [`narrow`] would refuse as 11.
+pub fn narrow_sorted(
+    charset: Charset,
+    dictionary: &[u8],
+    list: &mut [u16],
+    count: usize,
+    edition: Edition,
+    query: &[u8],
+) -> Result<Narrowed, Refusal> {
+    let (second, query_swu) = edition.flags();
+    let mut answer = [0; 4];
+    unsafe {
+        raw::halofret_narrow_sorted(
+            charset.is_swu(),
+            dictionary.as_ptr(),
+            dictionary.len(),
+            list.as_mut_ptr(),
+            list.len(),
+            count,
+            second,
+            query_swu,
+            query.as_ptr(),
+            query.len(),
+            &mut answer,
+        )
+    };
+    narrowed(&answer)
 }
 
 /// Line `number` of the first dictionary and, running on, of the second.

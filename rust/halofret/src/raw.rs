@@ -155,6 +155,34 @@ extern "C" {
         answer: *mut [u64; 4],
     );
 
+    /// Puts the entries of a list in the order of the prefixes of their signs.
+    pub fn halofret_sort(
+        swu: bool,
+        dict: *const u8,
+        dict_len: usize,
+        list: *mut u16,
+        room: usize,
+        n: usize,
+        spare: *mut u16,
+        spare_room: usize,
+        answer: *mut [u64; 2],
+    );
+
+    /// Keeps the entries of a list in any order that meet a query.
+    pub fn halofret_narrow_sorted(
+        swu: bool,
+        dict: *const u8,
+        dict_len: usize,
+        list: *mut u16,
+        room: usize,
+        n: usize,
+        second: bool,
+        query_swu: bool,
+        query: *const u8,
+        query_len: usize,
+        answer: *mut [u64; 4],
+    );
+
     /// Finds a line in two dictionaries.
     pub fn halofret_fetch(
         first: *const u8,

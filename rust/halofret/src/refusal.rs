@@ -58,7 +58,8 @@ fn without_place(number: u8) -> Option<&'static str> {
         9 => "A sign without symbols has no box and no centre.",
         10 => "A number to be written would leave 250 to 749.",
         11 => {
-            "The entries are more than the list holds, or do not rise within 1 to the line count."
+            "The entries are more than the list holds, or do not rise within 1 to the line count, \
+             or where they need not rise one is not within it or stands twice."
         }
         12 => "The dictionary's last line is not ended by byte 10.",
         14 => "The dictionary is over its limits, such as 65,535 lines.",

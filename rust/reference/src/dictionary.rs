@@ -1,7 +1,7 @@
 //! Searching, narrowing and fetching (document 01, "The dictionary and its list"; searching by
 //! document 02, Q-10).
 
-use crate::query::{judge, Verdict};
+use crate::query::{judge, Query, Verdict};
 use crate::query_text::read_query;
 use crate::sign::{read_into, Sign};
 use crate::{refuse, Answer, Charset, Edition};
@@ -25,7 +25,7 @@ fn is_ended(dictionary: &[u8]) -> bool {
 }
 
 /// The line count of a dictionary that is neither 12 nor 14.
-fn checked_lines(dictionary: &[u8]) -> Answer<usize> {
+pub(crate) fn checked_lines(dictionary: &[u8]) -> Answer<usize> {
     if !is_ended(dictionary) {
         return refuse(12, 0);
     }
@@ -37,7 +37,7 @@ fn checked_lines(dictionary: &[u8]) -> Answer<usize> {
 }
 
 /// The lines of a dictionary that is ended, each as a part of it, without its byte 10.
-struct Lines<'a> {
+pub(crate) struct Lines<'a> {
     rest: &'a [u8],
 }
 
@@ -65,7 +65,7 @@ fn line_length(text: &[u8]) -> usize {
     passed + in_block.count()
 }
 
-fn lines_of(dictionary: &[u8]) -> Lines<'_> {
+pub(crate) fn lines_of(dictionary: &[u8]) -> Lines<'_> {
     Lines { rest: dictionary }
 }
 
@@ -135,21 +135,33 @@ pub fn narrow(
     let Some(list) = list.get_mut(..count).filter(|list| rises(list, line_count)) else {
         return refuse(11, 0);
     };
-    // A bad line may be the last one listed, so nothing is written before all are read.
-    let mut meets = vec![false; count];
-    let mut sign = Sign::EMPTY;
     let mut lines = lines_of(dictionary);
     let mut last = 0;
-    for (meets, &entry) in meets.iter_mut().zip(list.iter()) {
-        let line = lines.nth(usize::from(entry - last - 1)).unwrap_or_default();
+    keep_meeting(charset, &query, list, |entry| {
+        let between = usize::from(entry - last - 1);
         last = entry;
-        if read_into(charset, line, &mut sign).is_err() {
+        lines.nth(between).unwrap_or_default()
+    })
+}
+
+/// Keeps those of the entries whose lines meet the query, in the order they stand.
+pub(crate) fn keep_meeting<'a>(
+    charset: Charset,
+    query: &Query,
+    list: &mut [u16],
+    mut line_of: impl FnMut(u16) -> &'a [u8],
+) -> Answer<Narrowed> {
+    // A bad line may be the last one listed, so nothing is written before all are read.
+    let mut meets = vec![false; list.len()];
+    let mut sign = Sign::EMPTY;
+    for (meets, &entry) in meets.iter_mut().zip(list.iter()) {
+        if read_into(charset, line_of(entry), &mut sign).is_err() {
             return refuse(13, usize::from(entry));
         }
-        *meets = matches!(judge(&query, &sign), Verdict::Met(_));
+        *meets = matches!(judge(query, &sign), Verdict::Met(_));
     }
     let kept = compact(list, &meets);
-    let dropped = count - kept;
+    let dropped = list.len() - kept;
     Ok(Narrowed { kept, dropped })
 }
 

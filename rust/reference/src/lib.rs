@@ -1,4 +1,4 @@
-//! A plain implementation of document 01 and of requests of
+//! A plain implementation of document 01 and of requests of
 //! document 02, to hold the proved library against.
 //!
 //! It was written from the papers alone and shares no code with the library. It is
@@ -11,12 +11,14 @@
 //! - `geometry`: boxes, centres, shifting and centring
 //! - `query`, `query_text`: a query and its verdict on a sign; reading one in both editions
 //! - `dictionary`: searching, narrowing and fetching
+//! - `sorting`: sorting a list, and narrowing one in any order
 
 mod dictionary;
 mod geometry;
 mod query;
 mod query_text;
 mod sign;
+mod sorting;
 mod styling;
 mod styling_record;
 mod symbol;
@@ -27,6 +29,7 @@ pub use geometry::{boxes, centred, shift, Bounds, Boxes, SIZE_LIST_LENGTH};
 pub use query::{verdict, Query, Verdict, MOST_ALTERNATIVES, MOST_ITEMS};
 pub use query_text::{read_query, read_query_into};
 pub use sign::{read, read_into, transcribe, Placed, Sign, MOST_PREFIX, MOST_SYMBOLS};
+pub use sorting::{narrow_sorted, sort};
 pub use styling::{read_styled, read_styled_into, transcribe_styled};
 pub use styling::{Detail, Styling, SymbolStyle, LONGEST_NAME, MOST_STYLES, MOST_ZOOM};
 pub use styling_record::{write_styling_record, StylingRecord};

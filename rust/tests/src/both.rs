@@ -18,6 +18,13 @@ pub fn shown(text: &[u8]) -> String {
     }
 }
 
+/// The start of a list as it is shown then.
+fn shown_list(list: &[u16]) -> String {
+    const MOST: usize = 100;
+    let start = &list[..list.len().min(MOST)];
+    format!("{start:?} of {} entries", list.len())
+}
+
 /// Calls all three and compares them.
 fn agreed<T: PartialEq + std::fmt::Debug>(
     call: impl Fn(&dyn Interface) -> T,
@@ -167,6 +174,52 @@ impl Interface for Both {
         let input = || {
             let (query, dictionary) = (shown(query), shown(dictionary));
             format!("{query} in {edition:?} over {dictionary}, n {count}, room {room}")
+        };
+        agreed_writing(list, call, input)
+    }
+
+    fn sort(
+        &self,
+        set: Charset,
+        dictionary: &[u8],
+        list: &mut [u16],
+        count: usize,
+        spare: &mut [u16],
+    ) -> [u64; 2] {
+        let (room, spare_room) = (list.len(), spare.len());
+        // Both lists are lent as one, of which each call takes the two parts.
+        let mut lent = [&*list, &*spare].concat();
+        let call = |side: &dyn Interface, lent: &mut [u16]| {
+            let (list, spare) = lent.split_at_mut(room);
+            side.sort(set, dictionary, list, count, spare)
+        };
+        let input = || {
+            let (listed, dictionary) = (shown_list(list), shown(dictionary));
+            format!("{listed} over {dictionary}, n {count}, spare room {spare_room}")
+        };
+        let answer = agreed_writing(&mut lent, call, input);
+        list.copy_from_slice(&lent[..room]);
+        spare.copy_from_slice(&lent[room..]);
+        answer
+    }
+
+    fn narrow_sorted(
+        &self,
+        set: Charset,
+        dictionary: &[u8],
+        list: &mut [u16],
+        count: usize,
+        edition: Edition,
+        query: &[u8],
+    ) -> [u64; 4] {
+        let before = list.to_vec();
+        let call = |side: &dyn Interface, list: &mut [u16]| {
+            side.narrow_sorted(set, dictionary, list, count, edition, query)
+        };
+        let input = || {
+            let (query, dictionary) = (shown(query), shown(dictionary));
+            let listed = shown_list(&before);
+            format!("{query} in {edition:?}, {listed} over {dictionary}, n {count}")
         };
         agreed_writing(list, call, input)
     }

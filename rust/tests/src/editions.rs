@@ -1,5 +1,6 @@
 //! Seeded queries of every edition, and the spelling of the second in SWU.
 
+use crate::damage::damaged;
 use crate::generate::{query, query_about, query_about_from, query_item, query_of, wide_query};
 use crate::random::Random;
 use halofret::{Charset, Edition};
@@ -32,6 +33,26 @@ pub fn query_about_in(random: &mut Random, edition: Edition, fsw: &[u8]) -> Vec<
         Edition::Second(_) => query_about_from(random, fsw, 0),
     };
     spelled(random, edition, about)
+}
+
+/// A query of the edition, most often good.
+pub fn any_query(random: &mut Random, edition: Edition) -> Vec<u8> {
+    match random.below(6) {
+        0 => query_in(random, edition),
+        1 => {
+            let sought = query_in(random, edition);
+            damaged(random, &sought)
+        }
+        _ => wide_query_in(random, edition),
+    }
+}
+
+/// The refusals of queries that the edition has.
+pub fn query_refusals(edition: Edition) -> &'static [usize] {
+    match edition {
+        Edition::First => &[1, 2, 3, 4, 5],
+        Edition::Second(_) => &[1, 2, 3, 4, 5, 22],
+    }
 }
 
 /// A query in FSW, in the second edition with alternatives and in its character set.

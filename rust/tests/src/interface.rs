@@ -62,6 +62,23 @@ pub trait Interface {
         edition: Edition,
         query: &[u8],
     ) -> [u64; 4];
+    fn sort(
+        &self,
+        set: Charset,
+        dictionary: &[u8],
+        list: &mut [u16],
+        count: usize,
+        spare: &mut [u16],
+    ) -> [u64; 2];
+    fn narrow_sorted(
+        &self,
+        set: Charset,
+        dictionary: &[u8],
+        list: &mut [u16],
+        count: usize,
+        edition: Edition,
+        query: &[u8],
+    ) -> [u64; 4];
     fn fetch(&self, first: &[u8], second: &[u8], number: usize) -> [u64; 4];
 }
 

@@ -6,6 +6,7 @@
 //! - `both`: all of them at once; it fails where they differ
 //! - `generate`, `damage`, `random`: seeded signs, queries and dictionaries, and their damage
 //! - `editions`: seeded queries of every edition, and the spelling of the second in SWU
+//! - `lists`: seeded dictionaries and lists to be sorted, and what is stated of both
 //! - `stylings`: seeded stylings, and their damage
 
 pub mod both;
@@ -15,6 +16,7 @@ pub mod generate;
 pub mod interface;
 mod lent;
 pub mod library;
+pub mod lists;
 pub mod random;
 mod sides;
 pub mod stylings;

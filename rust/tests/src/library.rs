@@ -68,6 +68,19 @@ where
     numbers
 }
 
+/// The same for two that are lent: each is guarded and, on refusal, held to be as it was.
+fn writing_both<const N: usize>(
+    one: &mut [u16],
+    other: &mut [u16],
+    call: impl FnOnce(*mut u16, *mut u16, *mut [u64; N]),
+) -> [u64; N] {
+    writing(one, 0x5555, |one, a| {
+        let inner = writing(other, 0x5555, |other, a| call(one, other, a));
+        // SAFETY: `a` is the answer that `writing` lends.
+        unsafe { *a = inner };
+    })
+}
+
 /// What was written, or zeros if the call was refused: then it was left as it was.
 fn if_done<T: Copy + Default, const N: usize>(written: [T; N], numbers: &[u64]) -> [T; N] {
     match numbers[0] {
@@ -135,14 +148,9 @@ impl Interface for Library {
         let mut text = Text::new(text);
         let mut sign = [0xdead; raw::HALOFRET_SIGN];
         let mut styling = [0xdead; raw::HALOFRET_STYLING];
-        // Each of the two lent records is guarded and, on refusal, held to be as it was.
-        let numbers = writing(&mut styling, 0x5555, |styling, a| {
-            let inner = writing(&mut sign, 0x5555, |sign, a| unsafe {
-                let (sign, styling) = (sign.cast(), styling.cast());
-                raw::halofret_read_styled(is_swu(set), text.start(), text.len(), sign, styling, a)
-            });
-            // SAFETY: `a` is the answer that `writing` lends.
-            unsafe { *a = inner };
+        let numbers = writing_both(&mut sign, &mut styling, |sign, styling, a| unsafe {
+            let (sign, styling) = (sign.cast(), styling.cast());
+            raw::halofret_read_styled(is_swu(set), text.start(), text.len(), sign, styling, a)
         });
         let styling = StylingNumbers(if_done(styling, &numbers));
         (if_done(sign, &numbers), styling, numbers)
@@ -250,6 +258,43 @@ impl Interface for Library {
             let (dict, dict_len) = (dict.start(), dict.len());
             let (query, query_len) = (query.start(), query.len());
             raw::halofret_narrow(
+                swu, dict, dict_len, list, room, count, second, query_swu, query, query_len, a,
+            )
+        })
+    }
+
+    fn sort(
+        &self,
+        set: Charset,
+        dictionary: &[u8],
+        list: &mut [u16],
+        count: usize,
+        spare: &mut [u16],
+    ) -> [u64; 2] {
+        let mut dict = Text::new(dictionary);
+        let (room, spare_room) = (list.len(), spare.len());
+        writing_both(list, spare, |list, spare, a| unsafe {
+            let (swu, dict, dict_len) = (is_swu(set), dict.start(), dict.len());
+            raw::halofret_sort(swu, dict, dict_len, list, room, count, spare, spare_room, a)
+        })
+    }
+
+    fn narrow_sorted(
+        &self,
+        set: Charset,
+        dictionary: &[u8],
+        list: &mut [u16],
+        count: usize,
+        edition: Edition,
+        query: &[u8],
+    ) -> [u64; 4] {
+        let (mut dict, mut query) = (Text::new(dictionary), Text::new(query));
+        let (swu, (second, query_swu)) = (is_swu(set), flags(edition, &query));
+        let room = list.len();
+        writing(list, 0x5555, |list, a| unsafe {
+            let (dict, dict_len) = (dict.start(), dict.len());
+            let (query, query_len) = (query.start(), query.len());
+            raw::halofret_narrow_sorted(
                 swu, dict, dict_len, list, room, count, second, query_swu, query, query_len, a,
             )
         })

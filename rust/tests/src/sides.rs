@@ -190,6 +190,34 @@ macro_rules! side {
                 lay_out!(answer, values)
             }
 
+            fn sort(
+                &self,
+                set: Charset,
+                dictionary: &[u8],
+                list: &mut [u16],
+                count: usize,
+                spare: &mut [u16],
+            ) -> [u64; 2] {
+                let answer = $of::sort($set_of(set), dictionary, list, count, spare);
+                lay_out!(answer, |_| vec![])
+            }
+
+            fn narrow_sorted(
+                &self,
+                set: Charset,
+                dictionary: &[u8],
+                list: &mut [u16],
+                count: usize,
+                edition: Edition,
+                query: &[u8],
+            ) -> [u64; 4] {
+                let (set, edition) = ($set_of(set), $edition_of(edition));
+                let answer = $of::narrow_sorted(set, dictionary, list, count, edition, query);
+                let values =
+                    |narrowed: $of::Narrowed| vec![narrowed.kept as u64, narrowed.dropped as u64];
+                lay_out!(answer, values)
+            }
+
             fn fetch(&self, first: &[u8], second: &[u8], number: usize) -> [u64; 4] {
                 match $of::fetch(first, second, number) {
                     Err(refusal) => [refusal.number.into(), refusal.place as u64, 0, 0],

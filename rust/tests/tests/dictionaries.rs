@@ -2,26 +2,15 @@
 
 use differential::both::shown;
 use differential::damage::{damaged, noise};
-use differential::editions::{query_in, query_in_swu, wide_query_in};
-use differential::generate::{dictionary, dictionary_of, in_swu, short_sign};
+use differential::editions::{any_query, query_in_swu, query_refusals};
+use differential::generate::{dictionary, dictionary_of, short_sign};
+use differential::lists::{in_set, lines_of};
 use differential::{cases, Both, Charset, Edition, Interface, Random, Tally, BOTH_SETS, EDITIONS};
 use Edition::{First, Second};
 
 const MOST_LINES: usize = 65_535;
 /// What a list holds before it is lent.
 const UNTOUCHED: u16 = 7_777;
-
-/// Bytes 10 in a text.
-fn lines_of(text: &[u8]) -> usize {
-    text.iter().filter(|&&byte| byte == 10).count()
-}
-
-fn in_set(set: Charset, fsw: Vec<u8>) -> Vec<u8> {
-    match set {
-        Charset::Fsw => fsw,
-        Charset::Swu => in_swu(&fsw).unwrap(),
-    }
-}
 
 /// A dictionary, most often good, sometimes with a bad line or other damage.
 fn any_dictionary(random: &mut Random, set: Charset) -> Vec<u8> {
@@ -61,26 +50,6 @@ fn any_list(random: &mut Random, lines: usize) -> Vec<u16> {
     }
     list.extend(noise(random, 3).iter().map(|&byte| u16::from(byte)));
     list
-}
-
-/// A query of the edition, most often good.
-fn any_query(random: &mut Random, edition: Edition) -> Vec<u8> {
-    match random.below(6) {
-        0 => query_in(random, edition),
-        1 => {
-            let sought = query_in(random, edition);
-            damaged(random, &sought)
-        }
-        _ => wide_query_in(random, edition),
-    }
-}
-
-/// The refusals of queries that the edition has.
-fn query_refusals(edition: Edition) -> &'static [usize] {
-    match edition {
-        First => &[1, 2, 3, 4, 5],
-        Second(_) => &[1, 2, 3, 4, 5, 22],
-    }
 }
 
 /// The entries that a search must write or its refusal, but for 14 and 6, as the readers of query

@@ -5,17 +5,12 @@ use differential::both::shown;
 use differential::damage::damaged;
 use differential::editions::{query_about_in, query_in, wide_query_in};
 use differential::generate::{dictionary, short_sign};
+use differential::lists::split;
 use differential::{cases, Charset, Edition, Random, BOTH_SETS, EDITIONS};
 use halofret::{Found, Refusal};
 use Edition::First;
 
 const DICTIONARY: &[u8] = b"M500x500\nM510x515S10000490x485S20500500x495\nM515x515S20500500x500\n";
-
-/// The lines of a dictionary that is ended, each without its byte 10.
-fn split(dictionary: &[u8]) -> Vec<&[u8]> {
-    let lines = dictionary.split_inclusive(|&byte| byte == 10);
-    lines.map(|line| &line[..line.len() - 1]).collect()
-}
 
 /// Holds all that is told of the entries to what they are.
 fn expect_entries(found: &Found, dictionary: &[u8], entries: &[u16]) {
@@ -57,12 +52,16 @@ fn any_asked(random: &mut Random) -> (Edition, Vec<u8>) {
     (edition, any_query(random, edition))
 }
 
-/// How often a call was refused, and how often one kept and dropped some entries.
+/// How often a call was refused, and how often one kept and dropped some entries or put them in
+/// another order.
 #[derive(Debug, Default)]
 struct Seen {
     refused_searches: usize,
     refused_narrowings: usize,
+    refused_sorts: usize,
     narrowed: usize,
+    narrowed_sorted: usize,
+    rearranged: usize,
 }
 
 /// The same calls, plain and by what was found, on two lists that hold the same.
@@ -86,20 +85,53 @@ fn compare(random: &mut Random, set: Charset, dictionary: &[u8], seen: &mut Seen
     };
     let mut count = searched.written;
     expect_entries(&found, dictionary, &plain[..count]);
-    for _ in 0..random.below(4) {
+    let mut sorted = false;
+    for _ in 0..random.below(5) {
+        if random.once_in(3) {
+            sorted |= compare_sorting(random, set, &mut found, dictionary, &mut plain, count, seen);
+            continue;
+        }
         let (edition, query) = any_asked(random);
-        let expected = halofret::narrow(set, dictionary, &mut plain, count, edition, &query);
+        let narrow = match sorted {
+            false => halofret::narrow,
+            true => halofret::narrow_sorted,
+        };
+        let expected = narrow(set, dictionary, &mut plain, count, edition, &query);
         assert_eq!(found.narrow(edition, &query), expected, "{}", shown(&query));
         match expected {
             Ok(narrowed) => {
                 count = narrowed.kept;
-                seen.narrowed += usize::from(narrowed.kept > 0 && narrowed.dropped > 0);
+                let some = usize::from(narrowed.kept > 0 && narrowed.dropped > 0);
+                seen.narrowed += some;
+                seen.narrowed_sorted += usize::from(sorted) * some;
             }
             Err(_) => seen.refused_narrowings += 1,
         }
         expect_entries(&found, dictionary, &plain[..count]);
     }
     assert_eq!(list, plain);
+}
+
+/// Sorts both, with a spare list that is now and then too short. Answers whether it was done.
+fn compare_sorting(
+    random: &mut Random,
+    set: Charset,
+    found: &mut Found,
+    dictionary: &[u8],
+    plain: &mut [u16],
+    count: usize,
+    seen: &mut Seen,
+) -> bool {
+    let any = random.below(count + 1);
+    let mut spare = vec![9; *random.pick(&[count, count + 2, any])];
+    let (before, mut other) = (plain.to_vec(), spare.clone());
+    let expected = halofret::sort(set, dictionary, plain, count, &mut other);
+    assert_eq!(found.sort(&mut spare), expected, "{}", shown(dictionary));
+    assert_eq!(spare, other);
+    seen.rearranged += usize::from(plain != before);
+    seen.refused_sorts += usize::from(expected.is_err());
+    expect_entries(found, dictionary, &plain[..count]);
+    expected.is_ok()
 }
 
 #[test]
@@ -114,7 +146,10 @@ fn beside_the_plain_calls() {
     });
     assert!(seen.refused_searches > 1_000, "{seen:?}");
     assert!(seen.refused_narrowings > 1_000, "{seen:?}");
+    assert!(seen.refused_sorts > 1_000, "{seen:?}");
     assert!(seen.narrowed > 1_000, "{seen:?}");
+    assert!(seen.narrowed_sorted > 300, "{seen:?}");
+    assert!(seen.rearranged > 1_000, "{seen:?}");
 }
 
 #[test]
@@ -133,6 +168,32 @@ fn the_worked_dictionary() {
     assert_eq!((narrowed.kept, narrowed.dropped), (0, 1));
     expect_entries(&found, DICTIONARY, &[]);
     assert_eq!(list, [0, 0, 9, 9]);
+}
+
+/// Sorted, narrowed in that order, and sorted again after a refusal.
+#[test]
+fn in_dictionary_order() {
+    let dictionary = b"M500x500\nAS20500M500x500\nAS10000S20500M500x500\nAS10000M500x500\n\
+                       AS00000M500x500\nAS10000M500x500\n";
+    let (mut list, mut spare) = ([77; 8], [9; 8]);
+    let mut found = Found::search(Charset::Fsw, dictionary, &mut list, First, b"Q").unwrap();
+    let refusal = found.sort(&mut spare[..5]).unwrap_err();
+    assert_eq!((refusal.number, refusal.place), (6, 6));
+    expect_entries(&found, dictionary, &[1, 2, 3, 4, 5, 6]);
+    found.sort(&mut spare).unwrap();
+    assert_eq!(spare, [0, 0, 0, 0, 0, 0, 9, 9]);
+    expect_entries(&found, dictionary, &[5, 4, 6, 3, 2, 1]);
+    let narrowed = found.narrow(First, b"QT").unwrap();
+    assert_eq!((narrowed.kept, narrowed.dropped), (5, 1));
+    expect_entries(&found, dictionary, &[5, 4, 6, 3, 2]);
+    let refusal = found.sort(&mut spare[..4]).unwrap_err();
+    assert_eq!((refusal.number, refusal.place), (6, 5));
+    let refusal = found.narrow(First, b"Qx").unwrap_err();
+    assert_eq!((refusal.number, refusal.place), (1, 1));
+    found.sort(&mut spare[..5]).unwrap();
+    found.narrow(First, b"QAS10000T").unwrap();
+    expect_entries(&found, dictionary, &[4, 6, 3]);
+    assert_eq!(list, [4, 6, 3, 0, 0, 0, 77, 77]);
 }
 
 #[test]
@@ -166,7 +227,7 @@ fn lines_outlive_what_was_found() {
     assert_eq!(lines, [(2, all[1]), (3, all[2])]);
 }
 
-/// Lines are told in one walk: a walk from the start for each would make this very slow.
+/// Lines are found in one walk: a walk from the start for each would make this very slow.
 #[test]
 fn the_most_lines() {
     let dictionary = b"M500x500\nM500x500S10000500x500\nAS10000M500x500\n".repeat(21_845);
@@ -177,6 +238,20 @@ fn the_most_lines() {
     found.narrow(First, b"QT").unwrap();
     let third: Vec<u16> = (3..=65_535).step_by(3).collect();
     expect_entries(&found, &dictionary, &third);
+}
+
+/// The same for lines that are not in the order of the dictionary.
+#[test]
+fn the_most_lines_sorted() {
+    let dictionary = b"M500x500\nAS20500M500x500\nAS10000M500x500\n".repeat(21_845);
+    let (mut list, mut spare) = (vec![0; 65_535], vec![0; 65_535]);
+    let mut found = Found::search(Charset::Fsw, &dictionary, &mut list, First, b"Q").unwrap();
+    found.sort(&mut spare).unwrap();
+    let third = |first| (first..=65_535).step_by(3);
+    let sorted: Vec<u16> = third(3).chain(third(2)).chain(third(1)).collect();
+    expect_entries(&found, &dictionary, &sorted);
+    found.narrow(First, b"QT").unwrap();
+    expect_entries(&found, &dictionary, &sorted[..43_690]);
 }
 
 #[test]

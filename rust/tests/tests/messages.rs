@@ -1,5 +1,5 @@
 //! What the wrapper says of each refusal, and that each reaches the caller with the number and
-//! the place of document 01, "Refusal numbers", and of document 02, Q-1, Q-9 and Q-10.
+//! the place of document 01, "Refusal numbers", and of document 02, Q-1, Q-9, Q-10 and Q-12.
 
 use differential::generate::in_swu;
 use halofret::{raw, Charset, Edition, Refusal};
@@ -19,7 +19,12 @@ const SAID: [&[&str]; 19] = [
     &["Symbol 7", "has no size"],
     &["without symbols", "no box"],
     &["leave 250 to 749"],
-    &["more than the list holds", "do not rise", "line count"],
+    &[
+        "more than the list holds",
+        "do not rise",
+        "line count",
+        "stands twice",
+    ],
     &["last line", "not ended by byte 10"],
     &["Line 7", "does not read as a sign"],
     &["over its limits", "65,535 lines"],
@@ -128,6 +133,42 @@ fn each_refusal_of_a_dictionary_reaches_the_caller() {
 }
 
 #[test]
+fn each_refusal_of_a_sorted_list_reaches_the_caller() {
+    let set = Charset::Fsw;
+    let sort = |dictionary: &[u8], list: &[u16], spare_room| {
+        let (mut list, mut spare) = (list.to_vec(), vec![9; spare_room]);
+        let count = list.len();
+        refused(halofret::sort(
+            set, dictionary, &mut list, count, &mut spare,
+        ))
+    };
+    let narrow = |dictionary: &[u8], list: &[u16], query: &[u8]| {
+        let (mut list, edition) = (list.to_vec(), Edition::First);
+        let count = list.len();
+        refused(halofret::narrow_sorted(
+            set, dictionary, &mut list, count, edition, query,
+        ))
+    };
+    let bad_third = b"M500x500\nM500x500\nM\n";
+    assert_eq!(sort(b"M500x500", &[1], 1), (12, 0));
+    assert_eq!(sort(&[10; 65_536], &[1], 1), (14, 0));
+    assert_eq!(sort(bad_third, &[2, 1, 2], 3), (11, 0));
+    assert_eq!(sort(bad_third, &[2, 3, 1], 3), (13, 3));
+    assert_eq!(
+        (sort(bad_third, &[2, 1], 1), sort(bad_third, &[2, 1], 2)),
+        ((6, 2), (0, 0))
+    );
+    let refusal = halofret::sort(set, bad_third, &mut [1], 2, &mut [9; 2]).unwrap_err();
+    assert_eq!((refusal.number, refusal.place), (11, 0));
+    assert_eq!(narrow(bad_third, &[2, 1], b"QR204t100"), (5, 1));
+    assert_eq!(narrow(b"M500x500", &[1], b"Q"), (12, 0));
+    assert_eq!(narrow(&[10; 65_536], &[1], b"Q"), (14, 0));
+    assert_eq!(narrow(bad_third, &[2, 1, 2], b"Q"), (11, 0));
+    assert_eq!(narrow(bad_third, &[2, 3, 1], b"Q"), (13, 3));
+    assert_eq!(narrow(bad_third, &[2, 1], b"Q"), (0, 0));
+}
+
+#[test]
 fn crowded_items_reach_the_caller() {
     let set = Charset::Fsw;
     let second = Edition::Second(set);
@@ -146,6 +187,17 @@ fn crowded_items_reach_the_caller() {
         (22, 0)
     );
     let narrow = |query| refused(halofret::narrow(set, &line, &mut [1], 1, second, query));
+    assert_eq!((narrow(&eight), narrow(&nine)), ((0, 0), (22, 0)));
+    let narrow = |query| {
+        refused(halofret::narrow_sorted(
+            set,
+            &line,
+            &mut [1],
+            1,
+            second,
+            query,
+        ))
+    };
     assert_eq!((narrow(&eight), narrow(&nine)), ((0, 0), (22, 0)));
     let search = |query| refused(halofret::search(set, &line, &mut [9], second, query));
     assert_eq!((search(&eight), search(&nine)), ((0, 0), (22, 0)));
@@ -212,11 +264,14 @@ fn empty_slices() {
             refused(halofret::transcribe_styled(set, &[], &mut [])),
             (2, 0)
         );
+        assert_eq!(halofret::sort(set, &[], &mut [], 0, &mut []), Ok(()));
         for edition in differential::EDITIONS {
             let verdict = |query, text| refused(halofret::verdict(set, edition, query, text));
             assert_eq!(verdict(b"Q", &[]), (2, 0));
             assert_eq!(verdict(&[], b"x"), (2, 0));
             let narrowed = halofret::narrow(set, &[], &mut [], 0, edition, b"Q").unwrap();
+            assert_eq!((narrowed.kept, narrowed.dropped), (0, 0));
+            let narrowed = halofret::narrow_sorted(set, &[], &mut [], 0, edition, b"Q").unwrap();
             assert_eq!((narrowed.kept, narrowed.dropped), (0, 0));
             let search = |query| halofret::search(set, &[], &mut [], edition, query);
             let searched = search(b"Q").unwrap();
@@ -307,6 +362,30 @@ fn null_pointers_of_searches() {
         assert_eq!(search(none, 0, none, 0), [2, 0, 0, 0]);
         assert_eq!(search(line.as_ptr(), 9, query, 1), [6, 1, 0, 0]);
     }
+}
+
+/// No dictionary, no list and no spare list, and no spare list where one entry is sorted.
+#[test]
+fn null_pointers_of_sorted_lists() {
+    let (none, no_list, query) = (ptr::null(), ptr::null_mut(), b"Q".as_ptr());
+    let line = b"M500x500\n";
+    let (mut two, mut four, mut list) = ([9; 2], [9; 4], [1]);
+    for swu in [false, true] {
+        // SAFETY: as above.
+        unsafe {
+            raw::halofret_sort(swu, none, 0, no_list, 0, 0, no_list, 0, &mut two);
+            assert_eq!(two, [0, 0]);
+            raw::halofret_sort(swu, none, 0, no_list, 0, 1, no_list, 0, &mut two);
+            assert_eq!(two, [11, 0]);
+            let (dict, answer) = (none, &mut four);
+            raw::halofret_narrow_sorted(swu, dict, 0, no_list, 0, 0, false, swu, query, 1, answer);
+            assert_eq!(four, [0, 0, 0, 0]);
+        }
+    }
+    let (dict, start) = (line.as_ptr(), list.as_mut_ptr());
+    // SAFETY: as above.
+    unsafe { raw::halofret_sort(false, dict, 9, start, 1, 1, no_list, 0, &mut two) };
+    assert_eq!((two, list), ([6, 1], [1]));
 }
 
 #[test]

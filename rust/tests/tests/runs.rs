@@ -1,11 +1,13 @@
 //! Whole runs (document 01, "The dictionary and its list", with the search of document 02, Q-10):
 //! a search, and then narrowing calls. The final list is stated from the dictionary and the
 //! accepted queries; a reordering and the rewritten dictionary end alike. A run may mix editions
-//! (document 02, Q-9).
+//! (document 02, Q-9). All calls of a run have one form: they narrow a list that rises, or one in
+//! any order, which may have been sorted (document 02, Q-12).
 
 use differential::damage::{damaged, noise};
 use differential::editions::{query_about_in, query_in, wide_query_in};
 use differential::generate::{dictionary, short_sign};
+use differential::lists::stated_order;
 use differential::{cases, Both, Charset, Edition, Interface, Random, EDITIONS};
 use Charset::{Fsw, Swu};
 use Edition::{First, Second};
@@ -15,6 +17,19 @@ use Edition::{First, Second};
 const BEFORE: u16 = 33_333;
 /// List memory beyond the line count, which nothing may change.
 const BEYOND: [u16; 3] = [11_111, 0, 22_222];
+
+/// How a run goes on from its search.
+#[derive(Clone, Copy, Debug, PartialEq)]
+enum Form {
+    /// It narrows the list, which rises.
+    Rising,
+    /// It narrows the list in the order that the search left.
+    InOrder,
+    /// It sorts the list, and then narrows it in that order.
+    Sorted,
+}
+
+const FORMS: [Form; 3] = [Form::Rising, Form::InOrder, Form::Sorted];
 
 /// A query of a run, which keeps its edition wherever it stands.
 #[derive(Clone)]
@@ -47,6 +62,7 @@ impl Outcome {
 /// Searches by the first query and narrows by each of the others in turn. A refused search leaves
 /// the list as it was and starts no run.
 fn run(
+    form: Form,
     set: Charset,
     dictionary: &[u8],
     lines: usize,
@@ -63,6 +79,11 @@ fn run(
     }
     assert_eq!(answer[2], lines as u64);
     let found = answer[3] as usize;
+    if form == Form::Sorted {
+        let mut spare = vec![BEFORE; found];
+        let answer = Both.sort(set, dictionary, &mut list, found, &mut spare);
+        assert_eq!((answer, spare), ([0, 0], vec![0; found]));
+    }
     let mut outcome = Outcome {
         answers: vec![],
         list,
@@ -72,7 +93,10 @@ fn run(
     };
     for Asked { edition, text } in others {
         let (list, count) = (&mut outcome.list, outcome.kept);
-        let answer = Both.narrow(set, dictionary, list, count, *edition, text);
+        let answer = match form {
+            Form::Rising => Both.narrow(set, dictionary, list, count, *edition, text),
+            _ => Both.narrow_sorted(set, dictionary, list, count, *edition, text),
+        };
         if answer[0] == 0 {
             outcome.kept = answer[2] as usize;
         }
@@ -96,16 +120,26 @@ fn meeting<'a>(dictionary: &[u8], queries: impl Iterator<Item = &'a Asked> + Clo
         .collect()
 }
 
-/// The entries that meet the search's query and all accepted ones, then zeros to the number that
-/// the search wrote, then what was there.
-fn stated_list(dictionary: &[u8], lines: usize, first: &Asked, others: &[Asked]) -> Vec<u16> {
+/// The entries that meet the search's query and all accepted ones, rising or in the order they were
+/// sorted into, then zeros to the number that the search wrote, then what was there.
+fn stated_list(
+    form: Form,
+    dictionary: &[u8],
+    lines: usize,
+    first: &Asked,
+    others: &[Asked],
+) -> Vec<u16> {
     let accepted: Vec<&Asked> = others
         .iter()
         .filter(|query| Both.read_query(query.edition, &query.text)[0] == 0)
         .collect();
-    let started = std::iter::once(first);
-    let written = meeting(dictionary, started.clone()).len();
-    let mut list = meeting(dictionary, started.chain(accepted));
+    let mut list = meeting(dictionary, std::iter::once(first));
+    if form == Form::Sorted {
+        list = stated_order(Fsw, dictionary, &list);
+    }
+    let written = list.len();
+    let kept = meeting(dictionary, accepted.into_iter());
+    list.retain(|entry| kept.binary_search(entry).is_ok());
     list.resize(written, 0);
     list.resize(lines, BEFORE);
     list.extend(BEYOND);
@@ -172,8 +206,9 @@ fn checked_run(random: &mut Random, lines: usize) -> Result<Outcome, [u64; 2]> {
     let [fsw, swu] = dictionary(random, lines);
     assert_eq!(rewritten(&fsw), swu);
     let (first, queries) = (first_asked(random), queries(random));
-    let outcome = run(Fsw, &fsw, lines, &first, &queries);
-    assert_eq!(outcome, run(Swu, &swu, lines, &first, &queries));
+    let form = *random.pick(&FORMS);
+    let outcome = run(form, Fsw, &fsw, lines, &first, &queries);
+    assert_eq!(outcome, run(form, Swu, &swu, lines, &first, &queries));
     let refusal = Both.read_query(first.edition, &first.text);
     let outcome = match refusal[0] {
         0 => outcome.expect("an accepted search starts a run"),
@@ -182,13 +217,14 @@ fn checked_run(random: &mut Random, lines: usize) -> Result<Outcome, [u64; 2]> {
             return outcome;
         }
     };
-    assert_eq!(outcome.list, stated_list(&fsw, lines, &first, &queries));
+    let stated = stated_list(form, &fsw, lines, &first, &queries);
+    assert_eq!(outcome.list, stated, "{form:?}");
     assert_eq!(outcome.dropped, (outcome.found - outcome.kept) as u64);
 
     let mut order: Vec<usize> = (0..queries.len()).collect();
     random.shuffle(&mut order);
     let reordered: Vec<Asked> = order.iter().map(|&i| queries[i].clone()).collect();
-    let reordered = run(Fsw, &fsw, lines, &first, &reordered)?;
+    let reordered = run(form, Fsw, &fsw, lines, &first, &reordered)?;
     assert_eq!(reordered.list, outcome.list);
     assert_eq!(reordered.dropped, outcome.dropped);
     for (answer, &index) in reordered.answers.iter().zip(&order) {
@@ -236,8 +272,24 @@ fn every_reordering() {
         asked(Second(Swu), "Q\u{40001}fro\u{40061}fr\u{1d906}\u{1d906}V90"),
         asked(Second(Swu), "QR\u{46001}\u{40001}"),
     ];
-    let expected = run(Fsw, &fsw, 300, &first, &queries).unwrap();
-    assert_eq!(expected.list, stated_list(&fsw, 300, &first, &queries));
+    for form in FORMS {
+        let expected = expect_run(form, &fsw, &first, &queries);
+        let mut orders = 0;
+        each_order(&mut queries, 0, &mut |queries| {
+            let outcome = run(form, Fsw, &fsw, 300, &first, queries).unwrap();
+            assert_eq!(outcome.list, expected.list);
+            assert_eq!(outcome.dropped, expected.dropped);
+            assert_eq!(Ok(outcome), run(form, Swu, &swu, 300, &first, queries));
+            orders += 1;
+        });
+        assert_eq!(orders, 120);
+    }
+}
+
+/// The run of `every_reordering`, of whose queries the second and the last are refused.
+fn expect_run(form: Form, fsw: &[u8], first: &Asked, queries: &[Asked]) -> Outcome {
+    let expected = run(form, Fsw, fsw, 300, first, queries).unwrap();
+    assert_eq!(expected.list, stated_list(form, fsw, 300, first, queries));
     let refusals = expected.answers.iter().map(|answer| (answer[0], answer[1]));
     assert!(refusals.eq([(0, 0), (1, 7), (0, 0), (0, 0), (5, 1)]));
     assert!(expected.found < 300, "the search passes some over");
@@ -245,15 +297,7 @@ fn every_reordering() {
     for [_, _, kept, dropped] in [0, 2, 3].map(|accepted| expected.answers[accepted]) {
         assert!(kept > 0 && dropped > 0, "each query drops some");
     }
-    let mut orders = 0;
-    each_order(&mut queries, 0, &mut |queries| {
-        let outcome = run(Fsw, &fsw, 300, &first, queries).unwrap();
-        assert_eq!(outcome.list, expected.list);
-        assert_eq!(outcome.dropped, expected.dropped);
-        assert_eq!(Ok(outcome), run(Swu, &swu, 300, &first, queries));
-        orders += 1;
-    });
-    assert_eq!(orders, 120);
+    expected
 }
 
 /// Whichever query a run starts from, the same entries are left; only the zeros end elsewhere. A
@@ -268,21 +312,23 @@ fn every_start() {
         asked(Second(Fsw), "QR205t37eoS100uu"),
         asked(Second(Swu), "QR\u{40001}\u{49001}\u{1d906}\u{1d906}V70"),
     ];
-    let from_all = run(Fsw, &fsw, 300, &asked(First, "Q"), &queries).unwrap();
-    assert_eq!(from_all.found, 300);
-    assert!(from_all.kept > 0);
-    let mut found = vec![];
-    each_order(&mut queries, 0, &mut |queries| {
-        let (first, others) = queries.split_first().unwrap();
-        let outcome = run(Fsw, &fsw, 300, first, others).unwrap();
-        assert_eq!(outcome.entries(), from_all.entries());
-        assert_eq!(outcome.list, stated_list(&fsw, 300, first, others));
-        found.push(outcome.found);
-        assert_eq!(Ok(outcome), run(Swu, &swu, 300, first, others));
-    });
-    found.sort();
-    found.dedup();
-    assert!(found.len() > 1, "the searches find different numbers");
+    for form in FORMS {
+        let from_all = run(form, Fsw, &fsw, 300, &asked(First, "Q"), &queries).unwrap();
+        assert_eq!(from_all.found, 300);
+        assert!(from_all.kept > 0);
+        let mut found = vec![];
+        each_order(&mut queries, 0, &mut |queries| {
+            let (first, others) = queries.split_first().unwrap();
+            let outcome = run(form, Fsw, &fsw, 300, first, others).unwrap();
+            assert_eq!(outcome.entries(), from_all.entries());
+            assert_eq!(outcome.list, stated_list(form, &fsw, 300, first, others));
+            found.push(outcome.found);
+            assert_eq!(Ok(outcome), run(form, Swu, &swu, 300, first, others));
+        });
+        found.sort();
+        found.dedup();
+        assert!(found.len() > 1, "the searches find different numbers");
+    }
 }
 
 /// Many lines, and the same run with its narrowing backwards.
@@ -300,17 +346,18 @@ fn a_long_dictionary() {
         asked(Second(Fsw), "QS10000oS2ff00oS1000f"),
         asked(First, "QR100t204"),
     ];
-    let outcome = run(Fsw, &fsw, lines, &first, &queries).unwrap();
-    assert_eq!(outcome.list, stated_list(&fsw, lines, &first, &queries));
-    assert!(0 < outcome.kept && outcome.kept < outcome.found && outcome.found < lines);
-    assert_eq!(
-        Ok(&outcome),
-        run(Swu, &swu, lines, &first, &queries).as_ref()
-    );
-    queries.reverse();
-    let backwards = run(Fsw, &fsw, lines, &first, &queries).unwrap();
-    assert_eq!(backwards.list, outcome.list);
-    assert_eq!(backwards.dropped, outcome.dropped);
+    for form in FORMS {
+        let outcome = run(form, Fsw, &fsw, lines, &first, &queries).unwrap();
+        let stated = stated_list(form, &fsw, lines, &first, &queries);
+        assert_eq!(outcome.list, stated);
+        assert!(0 < outcome.kept && outcome.kept < outcome.found && outcome.found < lines);
+        let in_swu = run(form, Swu, &swu, lines, &first, &queries);
+        assert_eq!(Ok(&outcome), in_swu.as_ref());
+        queries.reverse();
+        let backwards = run(form, Fsw, &fsw, lines, &first, &queries).unwrap();
+        assert_eq!(backwards.list, outcome.list);
+        assert_eq!(backwards.dropped, outcome.dropped);
+    }
 }
 
 /// A search whose query is refused, whatever would be asked after it.
@@ -327,8 +374,10 @@ fn no_run_from_a_refused_search() {
         (asked(Second(Swu), "QS10000"), [1, 1]),
     ] {
         for others in [&others[..], &[]] {
-            assert_eq!(run(Fsw, &fsw, 20, &first, others), Err(refusal));
-            assert_eq!(run(Swu, &swu, 20, &first, others), Err(refusal));
+            for form in FORMS {
+                assert_eq!(run(form, Fsw, &fsw, 20, &first, others), Err(refusal));
+                assert_eq!(run(form, Swu, &swu, 20, &first, others), Err(refusal));
+            }
         }
     }
 }

@@ -1,6 +1,6 @@
 //! The worked examples of document 01 and of its open points, by all sides. Places in numbers are
-//! those of document 02, Q-5, offsets those of its Q-8, and searches those of its Q-10. Queries
-//! are of the first edition.
+//! those of document 02, Q-5, offsets those of its Q-8, searches those of its Q-10, and sorted
+//! lists those of its Q-12. Queries are of the first edition.
 
 use differential::generate::in_swu;
 use differential::interface;
@@ -431,6 +431,80 @@ fn narrowing_refuses_in_order() {
     let bad_third = b"M500x500\nx\nx\nM500x500\n";
     assert_eq!(narrow(bad_third, &[1, 3, 4], 3, "Q"), (13, 3));
     assert_eq!(narrow(bad_third, &[1, 4], 2, "Q"), (0, 0));
+}
+
+const PREFIXED: &str = "M500x500\nAS20500M500x500\nAS10000S20500M500x500\nAS10000M500x500\n\
+                        AS00000M500x500\nAS10000M500x500\n";
+
+/// The same lines in both sets.
+fn prefixed_in_both() -> [(Charset, Vec<u8>); 2] {
+    let lines = PREFIXED.lines();
+    let swu = lines.flat_map(|line| [in_swu(line.as_bytes()).unwrap(), vec![10]].concat());
+    [(Fsw, PREFIXED.into()), (Swu, swu.collect())]
+}
+
+#[test]
+fn sorting() {
+    for (set, dictionary) in prefixed_in_both() {
+        let (mut list, mut spare) = ([1, 2, 3, 4, 5, 6, 77], [9; 8]);
+        let sorted = [5, 4, 6, 3, 2, 1, 77];
+        let answer = Both.sort(set, &dictionary, &mut list, 6, &mut spare);
+        assert_eq!((answer, list), ([0, 0], sorted));
+        assert_eq!(spare, [0, 0, 0, 0, 0, 0, 9, 9]);
+        let answer = Both.sort(set, &dictionary, &mut list, 6, &mut spare);
+        assert_eq!((answer, list), ([0, 0], sorted));
+        // Equal prefixes stay as they stood, whichever number is the greater.
+        let mut list = [6, 1, 4, 3];
+        let answer = Both.sort(set, &dictionary, &mut list, 4, &mut spare);
+        assert_eq!((answer, list), ([0, 0], [6, 4, 3, 1]));
+        for list in [[1, 2, 3, 2], [1, 0, 3, 2], [1, 7, 3, 2]] {
+            let (mut lent, mut spare) = (list, [9; 4]);
+            let answer = Both.sort(set, &dictionary, &mut lent, 4, &mut spare);
+            assert_eq!((answer, lent, spare), ([11, 0], list, [9; 4]));
+            let answer = Both.sort(set, &dictionary, &mut lent, 5, &mut spare);
+            assert_eq!((answer, lent, spare), ([11, 0], list, [9; 4]));
+        }
+        let (mut list, mut spare) = ([1, 2, 3], [9; 2]);
+        let answer = Both.sort(set, &dictionary, &mut list, 3, &mut spare);
+        assert_eq!((answer, list, spare), ([6, 3], [1, 2, 3], [9; 2]));
+        let answer = Both.sort(set, &dictionary, &mut list, 0, &mut []);
+        assert_eq!((answer, list), ([0, 0], [1, 2, 3]));
+    }
+}
+
+/// The place is that of the first bad line in the list's order; lines not listed are not read.
+#[test]
+fn sorting_reads_what_is_listed() {
+    let bad = b"M500x500\nx\nx\nM500x500\n";
+    let sort = |list: &[u16], spare: &mut [u16]| {
+        let mut lent = list.to_vec();
+        let answer = Both.sort(Fsw, bad, &mut lent, list.len(), spare);
+        refusal(&answer)
+    };
+    assert_eq!(sort(&[4, 3, 2, 1], &mut []), (13, 3));
+    assert_eq!(sort(&[4, 2, 3, 1], &mut []), (13, 2));
+    assert_eq!(sort(&[4, 1], &mut []), (6, 2));
+    assert_eq!(sort(&[4, 1], &mut [9; 2]), (0, 0));
+}
+
+#[test]
+fn narrowing_a_sorted_list() {
+    for (set, dictionary) in prefixed_in_both() {
+        let mut list = [5, 4, 6, 3, 2, 1, 77];
+        let answer = Both.narrow(set, &dictionary, &mut list, 6, First, b"Q");
+        assert_eq!((answer, list), ([11, 0, 0, 0], [5, 4, 6, 3, 2, 1, 77]));
+        let answer = Both.narrow_sorted(set, &dictionary, &mut list, 6, First, b"Q");
+        assert_eq!((answer, list), ([0, 0, 6, 0], [5, 4, 6, 3, 2, 1, 77]));
+        let answer = Both.narrow_sorted(set, &dictionary, &mut list, 6, First, b"QAS100uuT");
+        assert_eq!((answer, list), ([0, 0, 3, 3], [4, 6, 3, 0, 0, 0, 77]));
+        let answer = Both.narrow_sorted(set, &dictionary, &mut list, 3, First, b"Qx");
+        assert_eq!(answer, [1, 1, 0, 0]);
+        let sought = b"QAS10000S20500T";
+        let answer = Both.narrow_sorted(set, &dictionary, &mut list, 3, First, sought);
+        assert_eq!((answer, list), ([0, 0, 1, 2], [3, 0, 0, 0, 0, 0, 77]));
+        let answer = Both.narrow_sorted(set, &dictionary, &mut list, 2, First, b"Q");
+        assert_eq!(answer, [11, 0, 0, 0]);
+    }
 }
 
 #[test]

@@ -1,5 +1,7 @@
 use Rattle.query.proofs.Answers.{all-fit}
 use Rattle.verdict.proofs.Answers.{query-held}
+use Rattle.narrowing.specs.Narrowing.{rising}
+use Rattle.dictionary.specs.Narrowing.{narrowed}
 use Rattle.dictionary.proofs.Narrowings.{with-refused, with-done}
 use borrow.Author.Needs.{needs}
 use Rattle.dictionary.proofs.narrow.Statement.{statement}
@@ -15,7 +17,8 @@ not-narrowed-requires : tie.Need-not-narrowed-requires
 not-narrowed-requires c κs = search needs
 
 returns : tie.Need-returns
-returns c = with-refused (c .before .before .before .read-into .ensures) _ _ _ _ _ (c .before .if1 .taken) (c .not-narrowed .ensures)
+unfolding narrowed
+returns c = with-refused rising (c .before .before .before .read-into .ensures) _ _ _ _ _ (c .before .if1 .taken) (c .not-narrowed .ensures)
 
 slice-aggregate-narrow-by : tie.Need-slice-aggregate-narrow-by
 slice-aggregate-narrow-by c = search needs
@@ -27,7 +30,8 @@ same-length : tie.Need-same-length
 same-length c = search needs
 
 returns-2 : tie.Need-returns-2
-returns-2 c = with-done (c .before .before .before .before .before .before .before .read-into .ensures) _ _ _ _ (c .before .before .before .before .before .if1 .left) _ _ (c .before .before .narrow-by .ensures)
+unfolding narrowed
+returns-2 c = with-done rising (c .before .before .before .before .before .before .before .read-into .ensures) _ _ _ _ (c .before .before .before .before .before .if1 .left) _ _ (c .before .before .narrow-by .ensures)
 
 pub narrow-spec : {M : Type 1} → statement M
 narrow-spec =

@@ -1,9 +1,12 @@
 use Prim.Native.Nat.{ℕ}
-use mathlib.Core.Path.{_∙_}
+use mathlib.Core.Path.{sym, _∙_}
 use borrow.Author.Tests.{not-false}
 use lib.ListN.{length-replicate}
-use Rattle.list.proofs.Sets.{none-in}
-use Rattle.dictionary.proofs.Narrowings.{kept-most, by-dictionary, by-11, counted-bits, ready, ready-list, ready-lines, ready-inside, by-13, by-done}
+use Rattle.narrowing.specs.Narrowing.{rising}
+use Rattle.narrowing.proofs.Rising.{rising-within}
+use Rattle.lines.proofs.Counts.{counted-few}
+use Rattle.list.proofs.Sets.{none-in, set-room}
+use Rattle.dictionary.proofs.Narrowings.{kept-most, by-dictionary, by-11, ready, ready-list, ready-lines, ready-inside, by-13, by-done, rising-marked, rising-first}
 use borrow.Author.Needs.{needs}
 use Rattle.dictionary.proofs.words.narrow_by.Statement.{statement}
 use Rattle.dictionary.proofs.words.narrow_by.Tie as tie
@@ -15,13 +18,13 @@ not-narrowed-requires : tie.Need-not-narrowed-requires
 not-narrowed-requires c κs = search needs
 
 returns : tie.Need-returns
-returns c = by-dictionary _ _ _ _ _ _ (c .before .before .count-lines .ensures) (c .before .if1 .taken) _ (c .not-narrowed .ensures)
+returns c = by-dictionary _ _ _ _ _ _ _ (c .before .before .count-lines .ensures) (c .before .if1 .taken) _ (c .not-narrowed .ensures)
 
 slice-aggregate-add-rising : tie.Need-slice-aggregate-add-rising
 slice-aggregate-add-rising c = search needs
 
 add-rising-requires : tie.Need-add-rising-requires
-add-rising-requires c κs = ((counted-bits _ _ (c .before .before .before .count-lines .ensures) (c .before .before .if1 .left) (length-replicate {A = ℕ} 8192 0)), none-in 8192)
+add-rising-requires c κs = ((set-room (counted-few _ _ (c .before .before .before .count-lines .ensures) (c .before .before .if1 .left)) (length-replicate {A = ℕ} 8192 0)), none-in 8192)
 
 not-narrowed-requires-2 : tie.Need-not-narrowed-requires-2
 not-narrowed-requires-2 c κs = search needs
@@ -30,7 +33,7 @@ same-length : tie.Need-same-length
 same-length c = search needs
 
 returns-2 : tie.Need-returns-2
-returns-2 c = by-11 _ _ _ _ _ _ (c .before .before .before .before .before .before .before .count-lines .ensures) (c .before .before .before .before .before .before .if1 .left) _ (c .before .before .before .add-rising .ensures .0) (c .before .if2 .taken) _ (c .not-narrowed2 .ensures)
+returns-2 c = by-11 _ _ _ _ _ _ _ (c .before .before .before .before .before .before .before .count-lines .ensures) (c .before .before .before .before .before .before .if1 .left) _ (c .before .before .before .add-rising .ensures .0) (c .before .if2 .taken) _ (c .not-narrowed2 .ensures)
 
 slice-aggregate-find : tie.Need-slice-aggregate-find
 slice-aggregate-find c = search needs
@@ -39,7 +42,7 @@ slice-aggregate-find-2 : tie.Need-slice-aggregate-find-2
 slice-aggregate-find-2 c = search needs
 
 find-requires : tie.Need-find-requires
-find-requires c κs = (ready-lines (ready (c .before .before .before .before .before .before .before .before .before .before .before .before .args .dict .now) (c .before .before .before .before .before .before .before .before .before .before .before .before .args .list .now) (c .before .before .before .before .before .before .before .before .before .before .before .before .args .n) _ (c .before .before .before .before .before .before .before .before .count-lines .ensures) (c .before .before .before .before .before .before .before .if1 .left) _ (c .before .before .before .before .add-rising .ensures .0) (c .before .before .if2 .left)), (counted-bits _ _ (c .before .before .before .before .before .before .before .before .count-lines .ensures) (c .before .before .before .before .before .before .before .if1 .left) (c .before .before .before .before .add-rising .ensures .1 .long ∙ (length-replicate {A = ℕ} 8192 0))), (counted-bits _ _ (c .before .before .before .before .before .before .before .before .count-lines .ensures) (c .before .before .before .before .before .before .before .if1 .left) (length-replicate {A = ℕ} 8192 0)), c .before .before .before .before .before .before .before .before .before .before .before .before .pre, none-in 8192)
+find-requires c κs = (ready-lines (ready rising (c .before .before .before .before .before .before .before .before .before .before .before .before .args .dict .now) (c .before .before .before .before .before .before .before .before .before .before .before .before .args .list .now) (c .before .before .before .before .before .before .before .before .before .before .before .before .args .n) _ (c .before .before .before .before .before .before .before .before .count-lines .ensures) (c .before .before .before .before .before .before .before .if1 .left) _ (c .before .before .before .before .add-rising .ensures .0) (c .before .before .if2 .left)), (set-room (counted-few _ _ (c .before .before .before .before .before .before .before .before .count-lines .ensures) (c .before .before .before .before .before .before .before .if1 .left)) (c .before .before .before .before .add-rising .ensures .1 .long ∙ (length-replicate {A = ℕ} 8192 0))), (set-room (counted-few _ _ (c .before .before .before .before .before .before .before .before .count-lines .ensures) (c .before .before .before .before .before .before .before .if1 .left)) (length-replicate {A = ℕ} 8192 0)), c .before .before .before .before .before .before .before .before .before .before .before .before .pre, none-in 8192)
 
 not-narrowed-requires-3 : tie.Need-not-narrowed-requires-3
 not-narrowed-requires-3 c κs = search needs
@@ -48,13 +51,13 @@ same-length-2 : tie.Need-same-length-2
 same-length-2 c = search needs
 
 returns-3 : tie.Need-returns-3
-returns-3 c = by-13 (ready (c .before .before .before .before .before .before .before .before .before .before .before .before .before .before .before .before .args .dict .now) (c .before .before .before .before .before .before .before .before .before .before .before .before .before .before .before .before .args .list .now) (c .before .before .before .before .before .before .before .before .before .before .before .before .before .before .before .before .args .n) _ (c .before .before .before .before .before .before .before .before .before .before .before .before .count-lines .ensures) (c .before .before .before .before .before .before .before .before .before .before .before .if1 .left) _ (c .before .before .before .before .before .before .before .before .add-rising .ensures .0) (c .before .before .before .before .before .before .if2 .left)) (c .before .before .before .before .before .before .before .before .before .before .before .before .before .before .before .before .args .set) (c .before .before .before .before .before .before .before .before .before .before .before .before .before .before .before .before .args .words .now) (c .before .before .before .before .before .before .before .before .add-rising .ensures .1) (not-false _ (c .before .before .before .before .before .before .if2 .left)) (c .before .before .before .find .ensures .0) (c .before .if3 .taken) _ (c .not-narrowed3 .ensures)
+returns-3 c = by-13 (ready rising (c .before .before .before .before .before .before .before .before .before .before .before .before .before .before .before .before .args .dict .now) (c .before .before .before .before .before .before .before .before .before .before .before .before .before .before .before .before .args .list .now) (c .before .before .before .before .before .before .before .before .before .before .before .before .before .before .before .before .args .n) _ (c .before .before .before .before .before .before .before .before .before .before .before .before .count-lines .ensures) (c .before .before .before .before .before .before .before .before .before .before .before .if1 .left) _ (c .before .before .before .before .before .before .before .before .add-rising .ensures .0) (c .before .before .before .before .before .before .if2 .left)) (c .before .before .before .before .before .before .before .before .before .before .before .before .before .before .before .before .args .set) (c .before .before .before .before .before .before .before .before .before .before .before .before .before .before .before .before .args .words .now) _ (rising-first (c .before .before .before .before .before .before .before .before .before .before .before .before .before .before .before .before .args .set) (c .before .before .before .before .before .before .before .before .before .before .before .before .before .before .before .before .args .dict .now) _ (c .before .before .before .before .before .before .before .before .before .before .before .before .before .before .before .before .args .words .now) (c .before .before .before .before .before .before .before .before .add-rising .ensures .1) (not-false _ (c .before .before .before .before .before .before .if2 .left)) (c .before .before .before .find .ensures .0)) (c .before .if3 .taken) _ (c .not-narrowed3 .ensures)
 
 slice-aggregate-compact : tie.Need-slice-aggregate-compact
 slice-aggregate-compact c = search needs
 
 compact-requires : tie.Need-compact-requires
-compact-requires c κs = (ready-list (ready (c .before .before .before .before .before .before .before .before .before .before .before .before .before .before .before .before .before .args .dict .now) (c .before .before .before .before .before .before .before .before .before .before .before .before .before .before .before .before .before .args .list .now) (c .before .before .before .before .before .before .before .before .before .before .before .before .before .before .before .before .before .args .n) _ (c .before .before .before .before .before .before .before .before .before .before .before .before .before .count-lines .ensures) (c .before .before .before .before .before .before .before .before .before .before .before .before .if1 .left) _ (c .before .before .before .before .before .before .before .before .before .add-rising .ensures .0) (c .before .before .before .before .before .before .before .if2 .left)), ready-inside (ready (c .before .before .before .before .before .before .before .before .before .before .before .before .before .before .before .before .before .args .dict .now) (c .before .before .before .before .before .before .before .before .before .before .before .before .before .before .before .before .before .args .list .now) (c .before .before .before .before .before .before .before .before .before .before .before .before .before .before .before .before .before .args .n) _ (c .before .before .before .before .before .before .before .before .before .before .before .before .before .count-lines .ensures) (c .before .before .before .before .before .before .before .before .before .before .before .before .if1 .left) _ (c .before .before .before .before .before .before .before .before .before .add-rising .ensures .0) (c .before .before .before .before .before .before .before .if2 .left)) (c .before .before .before .before .find .ensures .1 .long ∙ (length-replicate {A = ℕ} 8192 0)))
+compact-requires c κs = (ready-list (ready rising (c .before .before .before .before .before .before .before .before .before .before .before .before .before .before .before .before .before .args .dict .now) (c .before .before .before .before .before .before .before .before .before .before .before .before .before .before .before .before .before .args .list .now) (c .before .before .before .before .before .before .before .before .before .before .before .before .before .before .before .before .before .args .n) _ (c .before .before .before .before .before .before .before .before .before .before .before .before .before .count-lines .ensures) (c .before .before .before .before .before .before .before .before .before .before .before .before .if1 .left) _ (c .before .before .before .before .before .before .before .before .before .add-rising .ensures .0) (c .before .before .before .before .before .before .before .if2 .left)), ready-inside (ready rising (c .before .before .before .before .before .before .before .before .before .before .before .before .before .before .before .before .before .args .dict .now) (c .before .before .before .before .before .before .before .before .before .before .before .before .before .before .before .before .before .args .list .now) (c .before .before .before .before .before .before .before .before .before .before .before .before .before .before .before .before .before .args .n) _ (c .before .before .before .before .before .before .before .before .before .before .before .before .before .count-lines .ensures) (c .before .before .before .before .before .before .before .before .before .before .before .before .if1 .left) _ (c .before .before .before .before .before .before .before .before .before .add-rising .ensures .0) (c .before .before .before .before .before .before .before .if2 .left)) rising-within (c .before .before .before .before .find .ensures .1 .long ∙ (length-replicate {A = ℕ} 8192 0)))
 
 sub-dropped : tie.Need-sub-dropped
 sub-dropped c = kept-most _ _ _ _ (c .before .before .compact .ensures .0)
@@ -63,7 +66,7 @@ same-length-3 : tie.Need-same-length-3
 same-length-3 c = search needs
 
 returns-4 : tie.Need-returns-4
-returns-4 c = by-done (ready (c .before .before .before .before .before .before .before .before .before .before .before .before .before .before .before .before .before .before .before .before .args .dict .now) (c .before .before .before .before .before .before .before .before .before .before .before .before .before .before .before .before .before .before .before .before .args .list .now) (c .before .before .before .before .before .before .before .before .before .before .before .before .before .before .before .before .before .before .before .before .args .n) _ (c .before .before .before .before .before .before .before .before .before .before .before .before .before .before .before .before .count-lines .ensures) (c .before .before .before .before .before .before .before .before .before .before .before .before .before .before .before .if1 .left) _ (c .before .before .before .before .before .before .before .before .before .before .before .before .add-rising .ensures .0) (c .before .before .before .before .before .before .before .before .before .before .if2 .left)) (c .before .before .before .before .before .before .before .before .before .before .before .before .before .before .before .before .before .before .before .before .args .set) (c .before .before .before .before .before .before .before .before .before .before .before .before .before .before .before .before .before .before .before .before .args .words .now) (c .before .before .before .before .before .before .before .before .before .before .before .before .add-rising .ensures .1) (not-false _ (c .before .before .before .before .before .before .before .before .before .before .if2 .left)) (c .before .before .before .before .before .before .before .find .ensures .0) (c .before .before .before .before .before .if3 .left) (c .before .before .before .before .before .before .before .find .ensures .1) _ _ (c .before .before .compact .ensures .0) (c .before .before .compact .ensures .1)
+returns-4 c = by-done (ready rising (c .before .before .before .before .before .before .before .before .before .before .before .before .before .before .before .before .before .before .before .before .args .dict .now) (c .before .before .before .before .before .before .before .before .before .before .before .before .before .before .before .before .before .before .before .before .args .list .now) (c .before .before .before .before .before .before .before .before .before .before .before .before .before .before .before .before .before .before .before .before .args .n) _ (c .before .before .before .before .before .before .before .before .before .before .before .before .before .before .before .before .count-lines .ensures) (c .before .before .before .before .before .before .before .before .before .before .before .before .before .before .before .if1 .left) _ (c .before .before .before .before .before .before .before .before .before .before .before .before .add-rising .ensures .0) (c .before .before .before .before .before .before .before .before .before .before .if2 .left)) rising-within (c .before .before .before .before .before .before .before .before .before .before .before .before .before .before .before .before .before .before .before .before .args .set) (c .before .before .before .before .before .before .before .before .before .before .before .before .before .before .before .before .before .before .before .before .args .words .now) (rising-marked (c .before .before .before .before .before .before .before .before .before .before .before .before .before .before .before .before .before .before .before .before .args .set) (c .before .before .before .before .before .before .before .before .before .before .before .before .before .before .before .before .before .before .before .before .args .dict .now) _ (c .before .before .before .before .before .before .before .before .before .before .before .before .before .before .before .before .before .before .before .before .args .words .now) (c .before .before .before .before .before .before .before .before .before .before .before .before .add-rising .ensures .1) (not-false _ (c .before .before .before .before .before .before .before .before .before .before .if2 .left))) (sym (rising-first (c .before .before .before .before .before .before .before .before .before .before .before .before .before .before .before .before .before .before .before .before .args .set) (c .before .before .before .before .before .before .before .before .before .before .before .before .before .before .before .before .before .before .before .before .args .dict .now) _ (c .before .before .before .before .before .before .before .before .before .before .before .before .before .before .before .before .before .before .before .before .args .words .now) (c .before .before .before .before .before .before .before .before .before .before .before .before .add-rising .ensures .1) (not-false _ (c .before .before .before .before .before .before .before .before .before .before .if2 .left)) (c .before .before .before .before .before .before .before .find .ensures .0)) ∙ c .before .before .before .before .before .if3 .left) (c .before .before .before .before .before .before .before .find .ensures .1) (c .before .before .before .before .before .if3 .left) _ _ (c .before .before .compact .ensures .0) (c .before .before .compact .ensures .1)
 
 pub narrow-by-spec : {M : Type 1} → statement M
 narrow-by-spec =

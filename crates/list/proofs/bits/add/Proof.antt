@@ -1,5 +1,7 @@
+use Prim.Native.Nat.{_/_}
 use native.Mathlib.Omega.{arith}
-use Rattle.list.proofs.Sets.{one-bit, one-more}
+use lib.ListN.{getD}
+use Rattle.list.proofs.Bytes.{one-bit, one-more}
 use borrow.Author.Needs.{needs}
 use Rattle.list.proofs.bits.add.Statement.{statement}
 use Rattle.list.proofs.bits.add.Tie as tie
@@ -14,7 +16,7 @@ slice-read-bits : tie.Need-slice-read-bits
 slice-read-bits c = search needs
 
 add-bits : tie.Need-add-bits
-add-bits c = omega (arith, one-more _ (c .before .args .e) (c .before .pre .1))
+add-bits c = omega (arith, one-more (getD (c .before .args .bits .now) (c .before .args .e / 8) 0) (c .before .args .e) (omega (arith, c .slice-known .given (c .before .args .e / 8))) (c .before .pre .1))
 
 slice-write-bits : tie.Need-slice-write-bits
 slice-write-bits c = search needs

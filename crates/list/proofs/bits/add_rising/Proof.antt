@@ -1,6 +1,6 @@
 use Prim.Native.Nat.{_-_}
 use native.Mathlib.Omega.{arith}
-use Rattle.list.proofs.Sets.{Adding, adding-short, adding-start, adding-low, adding-high, adding-ends, adding-space, adding-more, adding-end}
+use Rattle.list.proofs.Sets.{Adding, adding-short, adding-start, adding-low, adding-high, adding-free, adding-space, adding-more, adding-end}
 use Rattle.list.proofs.bits.add_rising.Statement.{statement}
 use Rattle.list.proofs.bits.add_rising.Tie as tie
 
@@ -38,7 +38,7 @@ returns-3 : tie.Need-returns-3 Inv-loop μ-loop
 returns-3 c = adding-high (c .before .before .before .before .loop .inv) (c .before .before .before .loop-test .taken) (c .if3 .taken)
 
 add-requires : tie.Need-add-requires Inv-loop μ-loop
-add-requires c κs = (adding-space (c .before .before .before .before .before .loop .inv) (c .before .before .before .before .loop-test .taken) (c .before .before .if2 .left) (c .before .if3 .left), adding-ends (c .before .before .before .before .before .loop .inv) (c .before .before .before .before .loop-test .taken) (c .before .before .if2 .left) (c .before .if3 .left) .byte)
+add-requires c κs = (adding-space (c .before .before .before .before .before .loop .inv) (c .before .before .before .before .loop-test .taken) (c .before .before .if2 .left) (c .before .if3 .left), adding-free (c .before .before .before .before .before .loop .inv) (c .before .before .before .before .loop-test .taken) (c .before .before .if2 .left) (c .before .if3 .left))
 
 add-i : tie.Need-add-i Inv-loop μ-loop
 add-i c = omega (arith, c .before .before .before .before .before .before .before .before .loop .inv .room)

@@ -1,0 +1,3 @@
+// Where the lines of a dictionary start.
+
+pub mod table;

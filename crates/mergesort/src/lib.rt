@@ -1,0 +1,3 @@
+// A merge sort over parts of a lent list of entries.
+
+pub mod parts;

@@ -1,0 +1,3 @@
+pub mod Sorting
+pub mod SortingLaws
+pub mod Inner
