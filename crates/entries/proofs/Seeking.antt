@@ -16,7 +16,6 @@ use Rattle.narrowing.proofs.Rising.{bad-keep, bad-start, bad-here, bad-later, b
 use Rattle.format.proofs.Keeping.{keep-keep}
 use Rattle.narrowing.proofs.Entries.{Passed, passed-start, passed-few, passed-in, passed-out, passed-end}
 use Rattle.list.specs.Bits.{byteOf, bitOf, EndsBefore}
-use Rattle.entries.specs.declared.finding.Found.{Found}
 use Rattle.entries.specs.Entries.{readable, firstWrong}
 use Rattle.entries.specs.Judging.{meetsWords}
 use Rattle.entries.specs.Finding.{listedVerdict, foundAs, foundIn, Kept}

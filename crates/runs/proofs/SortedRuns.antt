@@ -1,26 +1,25 @@
 -- Demand 3 for runs that keep the order, as an instance of the claim about any form of call and anything that fills the list.
 use Prim.Native.Nat.{ℕ, _+_}
 use mathlib.Core.Path.{_≡_, refl, sym, ap, _∙_}
-use mathlib.Core.List.{List, _∷_, map}
+use mathlib.Core.List.{List, map}
 use mathlib.Core.Option.{Option, none, some}
-use mathlib.Core.Bool.{Bool, true}
+use mathlib.Core.Bool.{Bool}
 use lib.ListN.{length, take, drop}
 use lib.Seq.{take-append-seam}
 use Rattle.format.specs.Format.{every, keep}
 use Rattle.format.proofs.Lists.{every-true}
 use Rattle.charset.specs.declared.Charset.{Charset}
-use Rattle.token.specs.Result.{Result, inRoom, output}
+use Rattle.token.specs.Result.{inRoom, output}
 use Rattle.sign.specs.Transcription.{otherSet}
 use Rattle.query.specs.Reading.{Asked, queryAsked}
 use Rattle.query.proofs.Answers.{query-counted}
-use Rattle.lines.specs.Lines.{lines, lineOf}
+use Rattle.lines.specs.Lines.{lineOf}
 use Rattle.narrowing.specs.Narrowing.{distinct, filled, narrowedBy}
 use Rattle.narrowing.specs.Run as Run
 use Rattle.narrowing.specs.Run.{total, told}
 use Rattle.narrowing.specs.Form as Form
 use Rattle.narrowing.proofs.Distinct.{distinct-keep}
 use Rattle.narrowing.proofs.Runs as Runs
-use Rattle.arrangement.specs.Arranged.{arranged}
 use Rattle.arrangement.proofs.Merging.{arranged-length}
 use Rattle.arrangement.proofs.Arranging.{arranged-keep}
 use Rattle.books.specs.Book.{Book, bookOf, otherText, rewritten, countIn, readableIn}
@@ -31,12 +30,12 @@ use Rattle.books.proofs.Forms.{form-laws}
 use Rattle.books.proofs.Rewriting.{same-book}
 use Rattle.books.proofs.Sorting.{entry-order, was-sorted, distinct-fill, sorted-fill}
 use Rattle.searching.specs.Searching.{searchedAs}
-use Rattle.sorting.specs.Sorting.{sorted, sortedAs}
+use Rattle.sorting.specs.Sorting.{sorted}
 use Rattle.sorting.proofs.Laws.{accepted}
 use Rattle.dictionary.specs.Search.{found, searched}
 use Rattle.dictionary.specs.Narrowing.{testOf, narrowedSorted}
 use Rattle.dictionary.proofs.Searches.{meetsQuery, searchFill, search-fill, searched-from}
-use Rattle.runs.specs.Demand3.{Searches, writtenBy, isAccepted, meetsEach, meeting, ownRefusal}
+use Rattle.runs.specs.Demand3.{Searches, writtenBy, isAccepted, meetsEach}
 use Rattle.runs.specs.SortedRuns.{sortedFrom, Starts, startList, standing, sortedRun, remaining, SortedRuns}
 use Rattle.runs.proofs.Demand3.{asks-each, left-first, written-is, refusal-own}
 

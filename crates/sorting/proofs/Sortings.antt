@@ -5,10 +5,8 @@ use mathlib.Core.List.{List, _++_}
 use mathlib.Core.Bool.{Bool, true, false, not, true≢false}
 use native.Mathlib.Omega.{arith}
 use borrow.Author.Tests.{not-true, not-false, ne-eqb, eq-eqb, lt-leb, le-leb}
-use lib.Dec.{eqb}
 use lib.ListN.{length, take, drop, replicate, take-append-drop}
-use Rattle.format.specs.Format.{All}
-use Rattle.format.proofs.Lists.{all-weaker, all-both}
+use Rattle.format.proofs.Lists.{all-both}
 use Rattle.charset.specs.declared.Charset.{Charset}
 use Rattle.grammar.specs.Sign.{Meaning}
 use Rattle.token.specs.Refusal.{listWrong, lineWrong, roomShort}
@@ -18,8 +16,8 @@ use Rattle.lines.specs.declared.checked.Counted.{Counted}
 use Rattle.lines.specs.Lines.{lines as linesOf, firstLine, lineOf, lineStart}
 use Rattle.lines.specs.Checked.{lineCount, countedAs}
 use Rattle.lines.proofs.Counts.{count-whole, count-refused, count-done, counted-lines}
-use Rattle.lines.proofs.Starts.{Line, line-at}
-use Rattle.linetable.specs.Table.{startIn, Table}
+use Rattle.lines.proofs.Starts.{line-at}
+use Rattle.linetable.specs.Table.{Table}
 use Rattle.narrowing.specs.Narrowing.{distinct, listed}
 use Rattle.narrowing.proofs.Distinct.{distinct-within}
 use Rattle.arrangement.specs.Arranged.{arranged}
@@ -33,7 +31,6 @@ use Rattle.books.specs.Book.{Book, bookOf}
 use Rattle.books.specs.Sorting.{prefixOf, entryBefore, sortedIn, listAfter, spareAfter}
 use Rattle.books.proofs.Sorting.{was-sorted, sorted-counted}
 use Rattle.sorting.specs.declared.Checked.{Checked}
-use Rattle.sorting.specs.declared.Sorted.{Sorted}
 use Rattle.sorting.specs.Inner.{notChecked, checkedAs, Ready}
 use Rattle.sorting.specs.Sorting.{sorted, sortedAs}
 

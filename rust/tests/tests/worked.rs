@@ -475,7 +475,8 @@ fn sorting() {
 /// The place is that of the first bad line in the list's order; lines not listed are not read.
 #[test]
 fn sorting_reads_what_is_listed() {
-    let bad = b"M500x500\nx\nx\nM500x500\n";
+    // A sign with a styling is no line of a dictionary either.
+    let bad = b"M500x500\nx\nM500x500-\nM500x500\n";
     let sort = |list: &[u16], spare: &mut [u16]| {
         let mut lent = list.to_vec();
         let answer = Both.sort(Fsw, bad, &mut lent, list.len(), spare);
