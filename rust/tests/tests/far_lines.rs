@@ -83,13 +83,13 @@ fn one_long_line() {
     }
 }
 
-/// The line after a long one starts so many bytes after the first line, or the 33rd: 65,535 and
-/// 65,536 with those next to them.
+/// The line after a long one starts so many bytes after the first line, the 32nd or the 33rd: 65,535
+/// and 65,536 with those next to them.
 #[test]
 fn each_distance() {
     let mut random = Random::new(681_000);
     for set in BOTH_SETS {
-        for first in [0, 32] {
+        for first in [0, 31, 32] {
             for place in [first, first + 1, first + 2, first + 30, first + 31] {
                 for distance in 65_530..65_542 {
                     let mut far = Far::new(&mut random, set, 70, &[(place, 0)]);
