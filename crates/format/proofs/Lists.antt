@@ -1,7 +1,9 @@
--- What holds of every element of a list, or of two lists element by element, and what two equal lists begin with.
+-- What holds of every element of a list, or of two lists element by element, what two equal lists begin with, and lists of zeros.
+use Prim.Native.Nat.{ℕ, zero, suc}
 use mathlib.Core.List.{List, [], _∷_, _++_, map, foldr, Perm, Perm·foldr-eq}
 use mathlib.Core.Path.{_≡_, refl, sym, ap, _∙_}
 use mathlib.Core.Bool.{Bool, true, _&&_, and-true, and-assoc, and-comm, and-eq-true-iff, Bool-set}
+use lib.ListN.{getD, replicate}
 use Rattle.format.specs.Format.{All, Pairwise, every}
 
 pub all-append : {A : Type 0} (P : A → Type 0) (l m : List A) → All P l → All P m → All P (l ++ m)
@@ -71,3 +73,9 @@ module _ {A : Type 0} (test : A → Bool) where
 pub every-true : {A : Type 0} (l : List A) → every (λ a. true) l ≡ true
 every-true [] = refl
 every-true (a ∷ l) = every-true l
+
+-- wherever one looks in zeros there is 0
+pub zeros-at : (n i : ℕ) → _≡_ {A = ℕ} (getD (replicate n 0) i 0) 0
+zeros-at zero i = refl
+zeros-at (suc n) zero = refl
+zeros-at (suc n) (suc i) = zeros-at n i

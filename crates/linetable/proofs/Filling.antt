@@ -8,23 +8,19 @@ use lib.Dec.{leb, ltb, eqb}
 use lib.ListN.{length, getD, drop, set, replicate, length-set, length-replicate}
 use lib.Seq.{getD-set-same, getD-set-other}
 use borrow.Author.Tests.{eqb-true, eqb-false, leb-true, leb-false, ltb-true, ltb-false}
+use Rattle.format.proofs.Lists.{zeros-at}
 use Rattle.lines.specs.Lines.{lines, lineStart, firstLine}
 use Rattle.lines.proofs.Starts.{Line, start-first, start-within, line-at}
 use Rattle.linetable.specs.Table.{firstIn, firstOf, startIn, Clear, Table}
 use Rattle.linetable.proofs.Walking.{on-start, start-near, start-far}
-
-zeros : (n i : ℕ) → _≡_ {A = ℕ} (getD (replicate n 0) i 0) 0
-zeros zero i = refl
-zeros (suc n) zero = refl
-zeros (suc n) (suc i) = zeros n i
 
 -- fresh arrays
 pub clear-fresh : Clear (replicate 2048 0) (replicate 65536 0)
 clear-fresh = record {
   blocks = length-replicate {A = ℕ} 2048 0;
   places = length-replicate {A = ℕ} 65536 0;
-  baseless = zeros 2048;
-  empty = zeros 65536;
+  noBases = zeros-at 2048;
+  noOffsets = zeros-at 65536;
 }
 
 -- Lines 1 to e have their places, base is where the block of line e starts, and line e + 1 starts at `at`.
@@ -36,7 +32,7 @@ pub record Filling (dict : List ℕ) (n : ℕ) (bases offsets : List ℕ) (base 
   pub blocks : length bases ≡ 2048
   pub places : length offsets ≡ 65536
   pub based : (b : ℕ) → b * 32 ≤ e → getD bases b 0 ≡ lineStart dict (firstIn b)
-  pub baseless : (b : ℕ) → e < b * 32 → getD bases b 0 ≡ 0
+  pub noBases : (b : ℕ) → e < b * 32 → getD bases b 0 ≡ 0
   pub near : (k : ℕ) → 1 ≤ k → k ≤ e → getD offsets k 0 < 65535 → lineStart dict (firstOf k) + getD offsets k 0 ≡ lineStart dict k
   pub unused : getD offsets 0 0 ≡ 0
   pub beyond : (k : ℕ) → e < k → getD offsets k 0 ≡ 0
@@ -65,11 +61,11 @@ filling-start dict n bases offsets c = record {
   order = omega arith;
   blocks = c .blocks;
   places = c .places;
-  based = λ b h. c .baseless b ∙ start-first dict ∙ ap (lineStart dict) (first-zero b h);
-  baseless = λ b h. c .baseless b;
+  based = λ b h. c .noBases b ∙ start-first dict ∙ ap (lineStart dict) (first-zero b h);
+  noBases = λ b h. c .noBases b;
   near = λ k a b h. absurd (omega arith);
-  unused = c .empty 0;
-  beyond = λ k h. c .empty k;
+  unused = c .noOffsets 0;
+  beyond = λ k h. c .noOffsets k;
 }
 
 module _ {dict : List ℕ} {n : ℕ} {bases offsets : List ℕ} {base at e : ℕ} (c : Filling dict n bases offsets base at e) where
@@ -121,7 +117,7 @@ module _ {dict : List ℕ} {n : ℕ} {bases offsets : List ℕ} {base at e : ℕ
           blocks = length-set bases ((e + 1) / 32) base' ∙ c .blocks;
           places = length-set offsets (e + 1) offset ∙ c .places;
           based = λ b l. based-more b l (eqb b ((e + 1) / 32)) refl;
-          baseless = λ b l. getD-set-other bases ((e + 1) / 32) b base' 0 (λ s. omega arith) ∙ c .baseless b (omega arith);
+          noBases = λ b l. getD-set-other bases ((e + 1) / 32) b base' 0 (λ s. omega arith) ∙ c .noBases b (omega arith);
           near = λ k j l. near-more k j l (eqb k (e + 1)) refl;
           unused = getD-set-other offsets (e + 1) 0 offset 0 (λ s. omega arith) ∙ c .unused;
           beyond = λ k l. getD-set-other offsets (e + 1) k offset 0 (λ s. omega arith) ∙ c .beyond k (omega arith);
@@ -129,7 +125,7 @@ module _ {dict : List ℕ} {n : ℕ} {bases offsets : List ℕ} {base at e : ℕ
 
   module _ (z : n ≡ length (lines dict)) (h : n ≤ e) where
     base-within : (b : ℕ) (t : Bool) → leb (b * 32) n ≡ t → getD bases b 0 ≤ length dict
-    base-within b false q = omega (arith, c .baseless b (omega (arith, leb-false (b * 32) n q, c .most)))
+    base-within b false q = omega (arith, c .noBases b (omega (arith, leb-false (b * 32) n q, c .most)))
     base-within zero true q = omega (arith, c .based 0 (omega arith), start-first dict)
     base-within (suc b) true q =
         let l = leb-true (suc b * 32) n q in

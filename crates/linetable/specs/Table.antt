@@ -34,8 +34,8 @@ startIn dict bases offsets e = startFrom dict (getD bases (e / 32) 0) (getD offs
 pub record Clear (bases offsets : List ℕ) : Type 0 where
   pub blocks : length bases ≡ 2048
   pub places : length offsets ≡ 65536
-  pub baseless : (b : ℕ) → getD bases b 0 ≡ 0
-  pub empty : (e : ℕ) → getD offsets e 0 ≡ 0
+  pub noBases : (b : ℕ) → getD bases b 0 ≡ 0
+  pub noOffsets : (e : ℕ) → getD offsets e 0 ≡ 0
 
 -- any entry may be looked up, and what is found is in the dictionary or its end
 pub record Safe (dict bases offsets : List ℕ) : Type 0 where

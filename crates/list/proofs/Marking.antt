@@ -72,8 +72,8 @@ module _ {list : List ℕ} {n count : ℕ} {before bits : List ℕ} {i : ℕ} (c
         distinct-at count entry (take i list) (drop (i + 1) (take n list))
         (ap (distinct count) (sym (parts list n i (c .room) h)) ∙ listed-valid (distinct count) list n v)
 
-    turned-down : (Good → ⊥) → (false ≡ listed (distinct count) list n) × ListsApart false count (take n list) before bits
-    turned-down z = (go (listed (distinct count) list n) refl, refused count (take n list) before bits (c .long))
+    not-distinct : (Good → ⊥) → (false ≡ listed (distinct count) list n) × ListsApart false count (take n list) before bits
+    not-distinct z = (go (listed (distinct count) list n) refl, refused count (take n list) before bits (c .long))
       where
         go : (t : Bool) → listed (distinct count) list n ≡ t → false ≡ t
         go true q = absurd (z (good q))
@@ -81,11 +81,11 @@ module _ {list : List ℕ} {n count : ℕ} {before bits : List ℕ} {i : ℕ} (c
 
     pub marking-zero : entry ≡ 0 → (false ≡ listed (distinct count) list n) × ListsApart false count (take n list) before bits
     unfolding Good
-    marking-zero z = turned-down (λ g. omega (arith, g .0))
+    marking-zero z = not-distinct (λ g. omega (arith, g .0))
 
     pub marking-high : count < entry → (false ≡ listed (distinct count) list n) × ListsApart false count (take n list) before bits
     unfolding Good
-    marking-high z = turned-down (λ g. omega (arith, g .1))
+    marking-high z = not-distinct (λ g. omega (arith, g .1))
 
     module _ (l : (entry ≡ 0 → ⊥)) (m : entry ≤ count) where
       over : 0 < entry
@@ -96,7 +96,7 @@ module _ {list : List ℕ} {n count : ℕ} {before bits : List ℕ} {i : ℕ} (c
 
       pub marking-twice : bitOf bits entry ≡ true → (false ≡ listed (distinct count) list n) × ListsApart false count (take n list) before bits
       unfolding Good
-      marking-twice t = turned-down (λ g. true≢false (sym t ∙ c .marks .is entry over m ∙ g .2))
+      marking-twice t = not-distinct (λ g. true≢false (sym t ∙ c .marks .is entry over m ∙ g .2))
 
       module _ (free : bitOf bits entry ≡ false) where
         abbrev more : List ℕ

@@ -16,7 +16,7 @@ use Rattle.narrowing.specs.Narrowing.{entriesFrom, upTo, risingOver, rising, li
 use Rattle.format.proofs.Keeping.{keep-agree, keep-every}
 use Rattle.narrowing.proofs.Rising.{upTo-rising, rising-on, rising-low, rising-high, rising-end, rising-within, listed-short, listed-is}
 use Rattle.narrowing.proofs.Entries.{upTo-kept, upTo-left, Passed, passed-start, passed-in, passed-out, passed-room, passed-end}
-use Rattle.format.proofs.Lists.{all-weaker}
+use Rattle.format.proofs.Lists.{all-weaker, zeros-at}
 use Rattle.list.specs.Bits.{byteOf, bitOf, EndsBefore, Holds, Lists}
 use Rattle.list.proofs.Bytes.{left-here, added-here, added-other}
 
@@ -74,11 +74,6 @@ module _ (bits : List ℕ) (e : ℕ) (n : EndsBefore e bits) where
 -- a set of 8,192 bytes has a bit for each line
 pub set-room : {lines m : ℕ} → lines ≤ 65535 → m ≡ 8192 → lines / 8 < m
 set-room h e = omega arith
-
-getD-zeros : (n i : ℕ) → byteOf (replicate n 0) i ≡ 0
-getD-zeros zero i = refl
-getD-zeros (suc n) zero = refl
-getD-zeros (suc n) (suc i) = getD-zeros n i
 
 -- FROM a ON THERE IS NONE
 pub ends-later : (bits : List ℕ) (a m : ℕ) → EndsBefore a bits → EndsBefore (a + m) bits
@@ -196,7 +191,7 @@ pub holds-none : (test : ℕ → Bool) (bits : List ℕ) → EndsBefore 1 bits �
 holds-none test bits e = record { has = λ e l h. absurd (omega arith); ends = rw (zero-add 1) e }
 
 pub none-in : (bytes : ℕ) → EndsBefore 1 (replicate bytes 0)
-none-in bytes = record { byte = omega (arith, getD-zeros bytes (1 / 8), pow-pos (1 % 8)); later = λ i l. getD-zeros bytes i }
+none-in bytes = record { byte = omega (arith, zeros-at bytes (1 / 8), pow-pos (1 % 8)); later = λ i l. zeros-at bytes i }
 
 module _ {test : ℕ → Bool} {n : ℕ} {bits : List ℕ} (h : Holds test n bits) where
   below : (after : List ℕ) → ((i : ℕ) → i < n + 1 → bitOf after i ≡ bitOf bits i) → bitOf after (n + 1) ≡ test (n + 1) → (e : ℕ) → 0 < e → e ≤ n + 1 → bitOf after e ≡ test e
