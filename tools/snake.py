@@ -18,6 +18,16 @@ TOKEN = re.compile(r"(?<![^\s(){}\[\],;.\"`←@→≡×])(" + WORD + r")(?![^\s(
 FILES = ["crates/*/specs/**/*.antt", "crates/*/proofs/**/*.antt"]
 
 
+# Names that would fall together with another of their file: where, the name after port.py, and what it becomes.
+APART = [
+    ("crates/query/**/*.antt", "inOrder", "in_order_of"),
+    ("crates/query/src/*.rt", "inOrder", "in_order_of"),
+    ("crates/matching/proofs/Tests.antt", "fits_one", "fits_one_lem"),
+    ("crates/matching/proofs/judging/fits_at/Proof.antt", "fits_one", "fits_one_lem"),
+    ("crates/writer/proofs/**/*.antt", "number_size", "number_size_lem"),
+]
+
+
 def snake(name):
     name = re.sub(r"(?<=[a-z0-9])([A-Z])", lambda m: "_" + m[1].lower(), name)
     name = name.replace("′", "'")
@@ -61,7 +71,24 @@ def imported(files):
     return out
 
 
+def foreign(text):
+    """The names that a file imports from the library."""
+    crates = {os.path.basename(c) for c in glob.glob("crates/*")}
+    out = set()
+    for m in re.finditer(r"^(?:pub |ghost )*use ([^{\n]*)\{([^}]*)\}", text, re.M):
+        parts = m[1].split(".")
+        if parts[0] != "Rattle" or parts[1] not in crates:
+            out |= {it.strip().split(" as ")[0] for it in m[2].split(",")}
+    return out
+
+
 def main():
+    if "--check" not in sys.argv:
+        for where, name, new in APART:
+            for f in below([where]):
+                text = read(f)
+                with open(f, "w", encoding="utf-8") as it:
+                    it.write(re.sub(r"(?<![\w.'-])" + name + r"(?![\w'-])", new, text))
     files = below(FILES)
     own = declared(files)
     sources = below(["crates/*/src/**/*.rt"])
@@ -101,7 +128,8 @@ def main():
     texts = files + below(["crates/*/src/**/*.rt", "crates/*/must-fail/*.edit"])
     for f in texts:
         old = read(f)
-        new = TOKEN.sub(lambda m: table.get(m[1], m[1]), old)
+        theirs = foreign(old)
+        new = TOKEN.sub(lambda m: m[1] if m[1] in theirs else table.get(m[1], m[1]), old)
         if new != old:
             with open(f, "w", encoding="utf-8") as it:
                 it.write(new)

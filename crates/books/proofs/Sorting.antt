@@ -2,7 +2,7 @@
 use Prim.Native.Nat.{ℕ, ◌≤◌, ◌<◌}
 use mathlib.Core.Path.{◌≡◌, refl, sym, ap, ◌∙◌}
 use mathlib.Core.List.{List, [], ◌∷◌, ◌++◌}
-use mathlib.Core.Bool.{Bool, true, false, not, ◌&&◌, ◌||◌, and_false, or_assoc, or_comm}
+use mathlib.Core.Bool.{Bool, true, false, not, ◌&&◌, ◌||◌, and-false, or_assoc, or_comm}
 use borrow.Author.Tests.{le-leb, leb-true, eqb-true, eqb-false, eq-eqb, ne_eqb}
 use lib.Dec.{eqb, ltb, leb, lit<}
 use lib.ListN.{length, take, drop}
@@ -44,8 +44,8 @@ equal_swap a b = go (eqb b a) refl
 -- two entries ahead of a list, in either order: each is good or not, they are one or not, and each stands in the list or not
 ahead_swap : (a b same in_a in_b rest : Bool) → (b && (not (same || in_b) && (a && (not in_a && rest)))) ≡ (a && (not (same || in_a) && (b && (not in_b && rest))))
 ahead_swap false false same in_a in_b rest = refl
-ahead_swap false true same in_a in_b rest = and_false (not (same || in_b))
-ahead_swap true false same in_a in_b rest = sym (and_false (not (same || in_a)))
+ahead_swap false true same in_a in_b rest = and-false (not (same || in_b))
+ahead_swap true false same in_a in_b rest = sym (and-false (not (same || in_a)))
 ahead_swap true true true in_a in_b rest = refl
 ahead_swap true true false true true rest = refl
 ahead_swap true true false true false rest = refl

@@ -1,4 +1,5 @@
 // The boxes of a sign's symbols and its centre, on arrays.
+#![tactic(auto)]
 
 pub mod centre;
 pub mod groups;

@@ -1,4 +1,6 @@
 // Dictionaries: searching one into a list of entry numbers, and narrowing the list.
+#![tactic(auto)]
+
 ghost use Rattle.std.specs.Prelude.{◌≡◌};
 ghost use Rattle.token.specs.Result.{output};
 ghost use Rattle.dictionary.specs.Search.{found, searched};

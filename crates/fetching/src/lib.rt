@@ -1,4 +1,6 @@
 // Fetching a line from two dictionaries by its number. No line is read: they may be of either character set, or no signs.
+#![tactic(auto)]
+
 ghost use Rattle.std.specs.Prelude.{◌≡◌};
 ghost use Rattle.fetching.specs.Fetching.{fetching, fetched_line, fetched_place, refusal_as};
 

@@ -3,7 +3,7 @@ use Prim.Native.Nat.{ℕ, zero, suc}
 use mathlib.Core.List.Perm
 use mathlib.Core.List.{List, [], ◌∷◌, ◌++◌, map, foldr, Perm}
 use mathlib.Core.Path.{◌≡◌, refl, sym, ap, ◌∙◌}
-use mathlib.Core.Bool.{Bool, true, ◌&&◌, and_true, and_assoc, and_comm, and-eq-true_iff, Bool-set}
+use mathlib.Core.Bool.{Bool, true, ◌&&◌, and-true, and_assoc, and_comm, and-eq-true_iff, Bool-set}
 use lib.ListN.{get_or, replicate}
 use Rattle.format.specs.Format.{All, Pairwise, every}
 
@@ -55,7 +55,7 @@ module _ {A : Type 0} (test : A → Bool) where
   every_append (a ∷ l) m = ap (λ t. test a && t) (every_append l m) ∙ sym (and_assoc (test a) (every test l) (every test m))
 
   pub every_snoc : (l : List A) (a : A) → every test (l ++ (a ∷ [])) ≡ (every test l && test a)
-  every_snoc l a = every_append l (a ∷ []) ∙ ap (λ t. every test l && t) (and_true (test a))
+  every_snoc l a = every_append l (a ∷ []) ∙ ap (λ t. every test l && t) (and-true (test a))
 
   every_foldr : (l : List A) → every test l ≡ foldr (λ (a : A) (b : Bool). test a && b) true l
   every_foldr [] = refl

@@ -1,4 +1,6 @@
 // The boxes and the centre of a sign, and signs that are shifted or centred. Each entry takes any bytes and any numbers.
+#![tactic(auto)]
+
 ghost use Rattle.std.specs.Prelude.{◌≡◌, ◌<◌, ◌^◌};
 ghost use Rattle.token.specs.Result.{refusal, written, output};
 ghost use Rattle.moving.specs.Moves.{shifted_text, centred_text};

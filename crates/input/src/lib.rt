@@ -1,4 +1,6 @@
 // Reading standard input to its end, or knowing that it could not be read.
+#![tactic(auto)]
+
 ghost use Rattle.io.specs.Counts.{IsPrefixLen};
 
 use libc::STDIN_FILENO;

@@ -1,3 +1,4 @@
 // Text with numbers in it, written into lent memory.
+#![tactic(auto)]
 
 pub mod line;

@@ -1,3 +1,4 @@
 // Where the lines of a dictionary start.
+#![tactic(auto)]
 
 pub mod table;

@@ -2,7 +2,7 @@
 use Prim.Native.Nat.{ℕ, ◌+◌, ◌-◌, ◌/◌, ◌%◌, ◌^◌, ◌≤◌, ◌<◌}
 use mathlib.Core.Path.{◌≡◌, refl, sym, ap, ◌∙◌}
 use mathlib.Core.List.{List, [], ◌∷◌, ◌++◌}
-use mathlib.Core.Bool.{Bool, true, false, ◌||◌, true≢false, or_true, or_false}
+use mathlib.Core.Bool.{Bool, true, false, ◌||◌, true≢false, or-true, or-false}
 use native.Mathlib.Numerals.{add-one}
 use native.Mathlib.Omega.{arith}
 use borrow.Author.Tests.{eqb-true, eqb-false}
@@ -111,9 +111,9 @@ module _ {list : List ℕ} {n count : ℕ} {before bits : List ℕ} {i : ℕ} (c
             go : (t : Bool) → eqb entry e ≡ t → bit_of more e ≡ (has e (take i list) || (eqb entry e || false))
             go true q =
                 let s = eqb-true entry e q in
-                rw (q, ← s) (added_in bits entry marking-space free ∙ sym (or_true (has entry (take i list))))
+                rw (q, ← s) (added_in bits entry marking-space free ∙ sym (or-true (has entry (take i list))))
             go false q =
-                added_still bits entry marking-space free e (λ z. eqb-false entry e q (sym z)) ∙ c.marks.is e a b ∙ rw q (sym (or_false (has e (take i list))))
+                added_still bits entry marking-space free e (λ z. eqb-false entry e q (sym z)) ∙ c.marks.is e a b ∙ rw q (sym (or-false (has e (take i list))))
 
         pub marking-more : Marking list n count before more (i + 1)
         marking-more =

@@ -1,4 +1,5 @@
 // When a sign meets a query: the verdict with its witnesses.
+#![tactic(auto)]
 
 pub mod judging;
 

@@ -1,3 +1,4 @@
 // A merge sort over parts of a lent list of entries.
+#![tactic(auto)]
 
 pub mod parts;

@@ -1,7 +1,7 @@
 -- The numbers of an axis in an array, moved one by one.
 use Prim.Native.Nat.{ℕ, zero, suc, ◌+◌, ◌≤◌, ◌<◌}
 use mathlib.Core.Path.{◌≡◌, refl, sym, ap, ◌∙◌}
-use mathlib.Core.Bool.{◌&&◌, not, false, and_true, and_false}
+use mathlib.Core.Bool.{◌&&◌, not, false, and-true, and-false}
 use mathlib.Core.List.{List, [], ◌∷◌}
 use native.Mathlib.Numerals.{add-one}
 use native.Mathlib.Omega.{arith}
@@ -46,7 +46,7 @@ map_length f (suc n) (a ∷ l) = ap suc (map_length f n l)
 
 pub all_one : (by : ℤ) (most : ℕ) (values : List ℕ) → not (eqb (moved_or_zero by most) 0) ≡ every (stays by) (most ∷ upto (at values) 0)
 unfolding upto
-all_one by most values = stays_test by most ∙ sym (and_true (stays by most))
+all_one by most values = stays_test by most ∙ sym (and-true (stays by most))
 
 -- one number more, which leaves or stays
 module _ (by : ℤ) (most i : ℕ) (values : List ℕ) where
@@ -57,10 +57,10 @@ module _ (by : ℤ) (most i : ℕ) (values : List ℕ) where
   all_leaves e =
       step
       ∙ ap (λ t. every (stays by) (most ∷ upto (at values) i) && t) (sym (stays_test by (at values i)) ∙ ap not (eq-eqb (moved_or_zero by (at values i)) 0 e))
-      ∙ and_false (every (stays by) (most ∷ upto (at values) i))
+      ∙ and-false (every (stays by) (most ∷ upto (at values) i))
 
   pub all_stays : (moved_or_zero by (at values i) ≡ 0 → ⊥) → every (stays by) (most ∷ upto (at values) (i + 1)) ≡ every (stays by) (most ∷ upto (at values) i)
   all_stays e =
       step
       ∙ ap (λ t. every (stays by) (most ∷ upto (at values) i) && t) (sym (stays_test by (at values i)) ∙ ap not (ne_eqb (moved_or_zero by (at values i)) 0 e))
-      ∙ and_true (every (stays by) (most ∷ upto (at values) i))
+      ∙ and-true (every (stays by) (most ∷ upto (at values) i))

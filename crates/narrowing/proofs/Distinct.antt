@@ -2,7 +2,7 @@
 use Prim.Native.Nat.{ℕ, zero, suc, ◌+◌, ◌≤◌, ◌<◌}
 use mathlib.Core.Path.{◌≡◌, refl, sym, ap, subst, ◌∙◌}
 use mathlib.Core.List.{List, [], ◌∷◌, ◌++◌}
-use mathlib.Core.Bool.{Bool, true, false, not, ◌&&◌, ◌||◌, true≢false, or_true, and-eq-true_iff}
+use mathlib.Core.Bool.{Bool, true, false, not, ◌&&◌, ◌||◌, true≢false, or-true, and-eq-true_iff}
 use native.Mathlib.Omega.{arith}
 use borrow.Author.Tests.{ltb-true, leb-true, lt-ltb, le-leb, eq-eqb, ne_eqb, eqb-true, eqb-false, not-true}
 use lib.Dec.{eqb, ltb, leb}
@@ -66,7 +66,7 @@ all_has P (i ∷ k) a e h = go (eqb i e) refl h (λ t. all_has P k a.1 e t)
 pub has_all : (P : ℕ → Type 0) (k : List ℕ) → ((e : ℕ) → has e k ≡ true → P e) → All P k
 unfolding has
 has_all P [] f = tt
-has_all P (i ∷ k) f = (f i (ap (λ t. t || has i k) (eq-eqb i i refl)), has_all P k (λ e h. f e (ap (λ t. eqb i e || t) h ∙ or_true (eqb i e))))
+has_all P (i ∷ k) f = (f i (ap (λ t. t || has i k) (eq-eqb i i refl)), has_all P k (λ e h. f e (ap (λ t. eqb i e || t) h ∙ or-true (eqb i e))))
 
 -- what differs from all does not stand there
 has_not : (e : ℕ) (k : List ℕ) → All (λ i. i ≡ e → ⊥) k → has e k ≡ false

@@ -2,7 +2,7 @@
 use Prim.Native.Nat.{ℕ, zero, suc, ◌+◌, ◌-◌, ◌≤◌, ◌<◌}
 use mathlib.Core.Path.{◌≡◌, refl, ap, ◌∙◌}
 use mathlib.Core.List.{List, [], ◌∷◌, ◌++◌}
-use mathlib.Core.Bool.{Bool, true, false, ◌&&◌, and_false, and-eq-true_iff}
+use mathlib.Core.Bool.{Bool, true, false, ◌&&◌, and-false, and-eq-true_iff}
 use native.Mathlib.Omega.{arith}
 use borrow.Author.Tests.{ltb-true, leb-true, lt-ltb, le-ltb, le-leb, lt-leb}
 use lib.Dec.{ltb, leb}
@@ -23,7 +23,7 @@ module _ (last count e : ℕ) (entries : List ℕ) where
 
   pub rising_high : count < e → rising_over last count (e ∷ entries) ≡ false
   unfolding rising_over
-  rising_high h = simp (lt-leb _ _ h, and_false)
+  rising_high h = simp (lt-leb _ _ h, and-false)
 
   pub rising_parts : rising_over last count (e ∷ entries) ≡ true → (last < e) × (e ≤ count) × (rising_over e count entries ≡ true)
   unfolding rising_over

@@ -1,4 +1,6 @@
 // What a narrowing call and a run of such calls come to, and the claim about every run: see specs/ and proofs/.
+#![tactic(auto)]
+
 ghost use Rattle.std.specs.Prelude.{◌≡◌};
 ghost use Rattle.narrowing.specs.Narrowing.{not_narrowed};
 

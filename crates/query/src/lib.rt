@@ -1,4 +1,6 @@
 // Queries: reading, in every edition.
+#![tactic(auto)]
+
 ghost use Rattle.std.specs.Prelude.{◌≡◌};
 ghost use Rattle.query.specs.Reading.{query_of, reading_of};
 

@@ -1,4 +1,5 @@
 // Reading one item of a query at an offset of a text, as three numbers, and a coordinate; and the words in which a query lies.
+#![tactic(auto)]
 
 pub mod coordinate;
 pub mod item;

@@ -1,3 +1,4 @@
 // Reading a sign into lent arrays.
+#![tactic(auto)]
 
 pub mod arrays;

@@ -1,4 +1,6 @@
 // The search program, from its whole input to its whole output (document 01, "The search program"), and the same in dictionary order.
+#![tactic(auto)]
+
 ghost use Rattle.std.specs.Prelude.{◌≡◌, ◌++◌, ◌≤◌, ◌+◌, length, drop};
 ghost use Rattle.token.specs.Wrote.{Wrote};
 ghost use Rattle.report.specs.Report.{query_in, dictionary_in, within, refusal_text, found_text};

@@ -1,6 +1,8 @@
 // Runs of narrowing calls over small dictionaries. After each run it writes what was answered and the list memory, seven places that
 // held 9 before. The file stdout is written from document 01, "The dictionary and its list", and document 02, Q-9
 // and Q-10.
+#![tactic(auto)]
+
 use charset::Charset;
 use libc::STDOUT_FILENO;
 use querygrammar::Edition;

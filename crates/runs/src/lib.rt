@@ -1,4 +1,6 @@
 // A whole run of narrowing calls as one function, so that demand 3 can be read on code that runs.
+#![tactic(auto)]
+
 ghost use Rattle.std.specs.Prelude.{◌≡◌, map, ◌≤◌};
 ghost use Rattle.lines.specs.Lines.{lines};
 ghost use Rattle.narrowing.specs.Run.{next_count, run, total};

@@ -1,5 +1,7 @@
 // Searches a dictionary: standard input is a query line and an FSW dictionary (document 01, "The search program").
 // Where reading fails nothing is answered, so that a part of the input is never taken for all of it.
+#![tactic(auto)]
+
 use input::read_input;
 use libc::{STDERR_FILENO, STDOUT_FILENO};
 

@@ -3,6 +3,8 @@
 //
 // A line of the sheet with `-` in front is a title. A line such as `1024 M500x500~` adds a piece to the input that many times, with
 // byte 10 for `~`. An empty line has the input searched, and the next one starts.
+#![tactic(auto)]
+
 ghost use Rattle.std.specs.Prelude.{◌≤◌, length};
 
 use libc::{STDIN_FILENO, STDOUT_FILENO};

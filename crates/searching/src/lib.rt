@@ -1,4 +1,6 @@
 // Searching a dictionary (document 02, Q-10): what it answers, and below it searching by a query that lies in lent words.
+#![tactic(auto)]
+
 ghost use Rattle.std.specs.Prelude.{◌≡◌};
 ghost use Rattle.searching.specs.Searching.{not_searched};
 

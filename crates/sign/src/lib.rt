@@ -1,4 +1,6 @@
 // Signs: reading in either character set, and transcription into the other.
+#![tactic(auto)]
+
 ghost use Rattle.std.specs.Prelude.{◌≡◌};
 ghost use Rattle.token.specs.Result.{written, output};
 ghost use Rattle.sign.specs.Reading.{reading_in};

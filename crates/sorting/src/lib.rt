@@ -1,4 +1,6 @@
 // Words in dictionary order: the entry `sort` (document 02, Q-12).
+#![tactic(auto)]
+
 ghost use Rattle.std.specs.Prelude.{◌≡◌, ◌++◌, length, take, drop, replicate};
 ghost use Rattle.lines.specs.Lines.{lines as lines_of};
 ghost use Rattle.arrangement.specs.Arranged.{arranged};

@@ -1,1 +1,2 @@
 // The worked examples that document 01 marks with a star, as one statement: see specs/ and proofs/.
+#![tactic(auto)]

@@ -1,5 +1,7 @@
 // Signs with a styling string: reading one, its transcription, and writing a styling. A styling is a record of 3472 numbers in one
 // array that the caller lends: 7 KB are too much to hand out by value, and the array crosses into C as it is.
+#![tactic(auto)]
+
 ghost use Rattle.std.specs.Prelude.{◌≡◌};
 ghost use Rattle.token.specs.Result.{written, output};
 ghost use Rattle.styling.specs.Reading.{styled_of, styled_reading, record_left};

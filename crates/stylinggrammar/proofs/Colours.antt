@@ -2,7 +2,7 @@
 use Prim.Native.Nat.{ℕ, zero, suc, ◌+◌, ◌-◌, ◌≤◌}
 use mathlib.Core.List.{List, [], ◌∷◌, ◌++◌, append-nil}
 use mathlib.Core.Path.{◌≡◌, refl, sym, ap, ◌∙◌}
-use mathlib.Core.Bool.{Bool, true, false, ◌&&◌, ◌||◌, and_false, and-eq-true_iff}
+use mathlib.Core.Bool.{Bool, true, false, ◌&&◌, ◌||◌, and-false, and-eq-true_iff}
 use mathlib.Core.Logic.{◌⊎◌, inl, inr}
 use lib.Dec.{eqb, leb}
 use lib.ListN.{length, length-append}
@@ -148,7 +148,7 @@ colour_lawful = colour_open.lawful
 
 -- one that fails is enough
 every_not : (test : ℕ → Bool) (c : List ℕ) (b : ℕ) → test b ≡ false → every test (c ++ (b ∷ [])) ≡ false
-every_not test c b e = every_snoc test c b ∙ ap (λ t. every test c && t) e ∙ and_false (every test c)
+every_not test c b e = every_snoc test c b ∙ ap (λ t. every test c && t) e ∙ and-false (every test c)
 
 not_begun : (c : List ℕ) (b : ℕ) → letter b ≡ false → hexadecimal b ≡ false → begins_colour (c ++ (b ∷ [])) ≡ false
 unfolding begins_colour

@@ -1,4 +1,5 @@
 // Reading a styling string. Only `reading` is for other crates.
+#![tactic(auto)]
 
 mod colour;
 mod part;

@@ -1,4 +1,5 @@
 // Writing the styling string of a record.
+#![tactic(auto)]
 
 mod figures;
 pub mod writing;

@@ -1,4 +1,6 @@
 // Symbol keys, symbol codes and SWU characters, each turned into the other.
+#![tactic(auto)]
+
 ghost use Rattle.std.specs.Prelude.{◌≡◌};
 ghost use Rattle.token.specs.Result.{written, output};
 ghost use Rattle.symbol.specs.Codes.{code_read, code_text};

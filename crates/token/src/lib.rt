@@ -1,4 +1,5 @@
 // One token of a text, what a call that writes text answers, and the refusal numbers.
+#![tactic(auto)]
 
 pub mod reading;
 pub mod refusal;

@@ -2,6 +2,8 @@
 // through the public entries. A row of standard input is a letter for what is asked, a colon and a text. Each is written
 // again after its answer: the number, the place, then the values, or the length and the text that was written. The file
 // stdout, which this is held to, is written from the papers.
+#![tactic(auto)]
+
 ghost use Rattle.std.specs.Prelude.{◌≤◌, length};
 
 use charset::Charset;

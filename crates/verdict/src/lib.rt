@@ -1,4 +1,6 @@
 // The verdict of a query on a sign, both as texts.
+#![tactic(auto)]
+
 ghost use Rattle.std.specs.Prelude.{◌≡◌};
 ghost use Rattle.reader.specs.Signs.{sign_of};
 ghost use Rattle.matching.specs.Inner.{Laid};

@@ -1,5 +1,7 @@
 // Searches a dictionary as the search program does, and lists what it finds in dictionary order (document 02, Q-12).
 // Where reading fails nothing is answered, so that a part of the input is never taken for all of it.
+#![tactic(auto)]
+
 use input::read_input;
 use libc::{STDERR_FILENO, STDOUT_FILENO};
 

@@ -1,4 +1,5 @@
 // Writing a token, and writing a sign that lies in arrays.
+#![tactic(auto)]
 
 pub mod arrays;
 pub mod tokens;
