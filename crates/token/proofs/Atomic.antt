@@ -4,15 +4,11 @@ use mathlib.Core.List.{List, [], ◌∷◌}
 use mathlib.Core.Path.{◌≡◌, refl, sym, ◌∙◌}
 use lib.ListN.{length, drop}
 use native.Mathlib.Omega.{arith}
-use types.Run.{OneOf}
-use denote.Enum.Declared.{tag_of}
 use Rattle.format.specs.Format.{Answer, value, other, wrong, short, Format, at_start, atomic}
 use Rattle.format.specs.Located.{located, locate}
 use Rattle.token.specs.declared.reading.Token.{Token}
 use Rattle.token.specs.declared.reading.Token.TheVariants.{Wrong}
 use Rattle.token.specs.Token.{told, token_at}
-use Rattle.token.specs.contracts.reading.Token.{the_type}
-use Rattle.token.proofs.Keys.{not_wrong}
 
 module _ (f : Format ℕ) (s : List ℕ) (at : ℕ) where
   right_go : (a : Answer ℕ) → ((p : ℕ) → told (located (length s) at a) ≡ Wrong p → ⊥) → told (located (length s) at a) ≡ told (located (length s) at (at_start a))
@@ -22,9 +18,9 @@ module _ (f : Format ℕ) (s : List ℕ) (at : ℕ) where
   right_go short n = refl
 
   -- a value, or that the text ends, is told as it is
-  pub atomic_right : (r : Token) → r ≡ token_at f s at → OneOf (0 ∷ 2 ∷ []) (tag_of the_type r) → r ≡ token_at (atomic f) s at
+  pub atomic_right : (r : Token) → r ≡ token_at f s at → ((p : ℕ) → r ≡ Wrong p → ⊥) → r ≡ token_at (atomic f) s at
   unfolding token_at locate
-  atomic_right r e h = e ∙ right_go (f.read (drop at s)) λ p z. not_wrong r p h (e ∙ z)
+  atomic_right r e h = e ∙ right_go (f.read (drop at s)) λ p z. h p (e ∙ z)
 
   wrong_go : (p : ℕ) (a : Answer ℕ) → told (located (length s) at a) ≡ Wrong p → Wrong at ≡ told (located (length s) at (at_start a))
   wrong_go p (value v rest) e = absurd (let z : ◌≡◌ {A = ℕ} 0 1 = cc in omega arith)

@@ -4,8 +4,6 @@ use mathlib.Core.List.{List, [], ◌∷◌}
 use mathlib.Core.Path.{◌≡◌, refl, sym, ap, ◌∙◌}
 use mathlib.Core.Logic.{◌⊎◌, inl, inr}
 use native.Mathlib.Omega.{arith}
-use types.Run.{OneOf}
-use denote.Enum.Declared.{tag_of}
 use Rattle.format.specs.Format.{Format, sequence, mapped, either}
 use Rattle.format.specs.Located.{Located, found, wrong_at, short_here, locate, on_found}
 use Rattle.format.proofs.Delimited.{Delimited}
@@ -17,7 +15,6 @@ use Rattle.charset.proofs.Keys.{base_delimited}
 use Rattle.token.specs.declared.reading.Token.{Token}
 use Rattle.token.specs.declared.reading.Token.TheVariants.{Value, Wrong, Short}
 use Rattle.token.specs.Token.{told, token_at}
-use Rattle.token.specs.contracts.reading.Token.{the_type}
 use Rattle.token.proofs.Told.{Fails, Told, told_at, told_wrong, first_fails, second_fails, both_told, second_told}
 use Rattle.token.proofs.Digits.{digits_told}
 
@@ -44,12 +41,6 @@ module _ (lo hi top : ℕ) (to : ℕ × ℕ → ℕ) (from : ℕ → ℕ × ℕ)
 
   pub symbol_told : (b t : ℕ) (r : Token) → Told 3 (base lo hi) s at b → r ≡ token_at (turn top) s (at + 3) → r ≡ Value t → Value (to (b, t)) ≡ token_at symbol s at
   symbol_told b t r h e v = both_told 1 3 (base lo hi) (λ b. turn top) to from P (base_delimited lo hi o k) s at b t h (sym e ∙ v)
-
-pub not_wrong : (r : Token) (p : ℕ) → OneOf (0 ∷ 2 ∷ []) (tag_of the_type r) → r ≡ Wrong p → ⊥
-not_wrong (Value v) p h e = let z : ◌≡◌ {A = ℕ} 0 1 = cc in omega arith
-not_wrong (Wrong q) p (inl h) e = omega (arith, h)
-not_wrong (Wrong q) p (inr h) e = omega (arith, h)
-not_wrong Short p h e = let z : ◌≡◌ {A = ℕ} 0 1 = cc in omega arith
 
 pub wrong_elsewhere : (p at : ℕ) → (p ≡ at → ⊥) → Wrong p ≡ Wrong at → ⊥
 wrong_elsewhere p at n e = n (cc)

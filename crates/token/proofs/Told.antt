@@ -5,8 +5,6 @@ use mathlib.Core.Path.{◌≡◌, refl, sym, ap, ◌∙◌}
 use mathlib.Core.Logic.{inl, inr}
 use lib.ListN.{length}
 use native.Mathlib.Omega.{arith}
-use types.Run.{OneOf}
-use denote.Enum.Declared.{tag_of}
 use Rattle.format.specs.Format.{Format, sequence, mapped}
 use Rattle.format.specs.Located.{Located, found, wrong_at, short_here, locate, and_then, on_found}
 use Rattle.format.proofs.Delimited.{Delimited, Fixed}
@@ -14,15 +12,13 @@ use Rattle.format.proofs.At.{fixed_got, sequence_at, mapped_at}
 use Rattle.token.specs.declared.reading.Token.{Token}
 use Rattle.token.specs.declared.reading.Token.TheVariants.{Value, Wrong, Short}
 use Rattle.token.specs.Token.{told, token_at}
-use Rattle.token.specs.contracts.reading.Token.{the_type}
 
 -- a token that is no value
 abbrev pub Fails : Token → Type 0
-Fails t = OneOf (1 ∷ 2 ∷ []) (tag_of the_type t)
+Fails t = (v : ℕ) → t ≡ Value v → ⊥
 
 pub value_fails : {X : Type 0} (v : ℕ) → Fails (Value v) → X
-value_fails v (inl e) = let z : ◌≡◌ {A = ℕ} 0 1 = cc in absurd (omega arith)
-value_fails v (inr e) = let z : ◌≡◌ {A = ℕ} 0 2 = cc in absurd (omega arith)
+value_fails v h = absurd (h v refl)
 
 -- Where a value is told it was found; what else is told was located.
 pub record At (l : Located ℕ) (v : ℕ) : Type 0 where

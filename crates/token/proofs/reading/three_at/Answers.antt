@@ -1,0 +1,43 @@
+use Prim.Native.Nat.{min}
+use mathlib.Core.List.{[], ◌∷◌}
+use mathlib.Core.Path.{ap, ◌∙◌}
+use native.Mathlib.Omega.{arith}
+use Rattle.charset.specs.Bytes.{digit}
+use Rattle.token.proofs.Digits.{hexadecimal, First, Rest, head_fails, head_told, rest_limits, rest_told}
+use Rattle.token.proofs.reading.three_at.Goals as goal
+
+pub returns-in_default : goal.returns-in_default
+returns-in_default c =
+    head_fails hexadecimal _ (_ ∷ []) _ _ c.requires.1 c.requires.2 _ _ _ c.digit_at-first.ensures
+    c.in_default.not-Value
+
+pub overflow_mul-from : goal.overflow_mul-from
+overflow_mul-from c =
+    let first : let a = c.args in First digit a.p a.lo a.hi a.s.now a.at c.in-Value.a = head_told hexadecimal _ (_ ∷ []) _ _ c.requires.1 c.requires.2 _ _ _ _ c.digit_at-first.ensures c.in-Value.is in
+    omega (arith, first.under)
+
+pub two_at-next-requires : goal.two_at-next-requires
+two_at-next-requires c =
+    let first : let a = c.args in First digit a.p a.lo a.hi a.s.now a.at c.in-Value.a = head_told hexadecimal _ (_ ∷ []) _ _ c.requires.1 c.requires.2 _ _ _ _ c.digit_at-first.ensures c.in-Value.is in
+    let l =
+    rest_limits hexadecimal _ (_ ∷ []) _ _ c.requires.1 c.requires.2
+    _ _ _ _ _ (first) c.less.ensures (c.least.ensures ∙ ap (min _) c.less-2.ensures) in
+    (omega arith, l.0, l.1)
+
+pub returns-in_default-next : goal.returns-in_default-next
+returns-in_default-next c =
+    let first : let a = c.args in First digit a.p a.lo a.hi a.s.now a.at c.in-Value.a = head_told hexadecimal _ (_ ∷ []) _ _ c.requires.1 c.requires.2 _ _ _ _ c.digit_at-first.ensures c.in-Value.is in
+    let rest : let a = c.args in Rest digit a.p (a.q ∷ []) a.lo a.hi a.s.now a.at c.in-Value.a c.two_at-next.result = rest_told hexadecimal _ (_ ∷ []) _ _ c.requires.1 c.requires.2 _ _ _ _ _ _ (first) c.less.ensures (c.least.ensures ∙ ap (min _) c.less-2.ensures) c.two_at-next.ensures in
+    rest.fails c.in_default-next.not-Value
+
+pub overflow_add-result : goal.overflow_add-result
+overflow_add-result c =
+    let first : let a = c.args in First digit a.p a.lo a.hi a.s.now a.at c.in-Value.a = head_told hexadecimal _ (_ ∷ []) _ _ c.requires.1 c.requires.2 _ _ _ _ c.digit_at-first.ensures c.in-Value.is in
+    let rest : let a = c.args in Rest digit a.p (a.q ∷ []) a.lo a.hi a.s.now a.at c.in-Value.a c.two_at-next.result = rest_told hexadecimal _ (_ ∷ []) _ _ c.requires.1 c.requires.2 _ _ _ _ _ _ (first) c.less.ensures (c.least.ensures ∙ ap (min _) c.less-2.ensures) c.two_at-next.ensures in
+    omega (arith, rest.fits _ c.in-Value-next.is)
+
+pub returns : goal.returns
+returns c =
+    let first : let a = c.args in First digit a.p a.lo a.hi a.s.now a.at c.in-Value.a = head_told hexadecimal _ (_ ∷ []) _ _ c.requires.1 c.requires.2 _ _ _ _ c.digit_at-first.ensures c.in-Value.is in
+    let rest : let a = c.args in Rest digit a.p (a.q ∷ []) a.lo a.hi a.s.now a.at c.in-Value.a c.two_at-next.result = rest_told hexadecimal _ (_ ∷ []) _ _ c.requires.1 c.requires.2 _ _ _ _ _ _ (first) c.less.ensures (c.least.ensures ∙ ap (min _) c.less-2.ensures) c.two_at-next.ensures in
+    rest.value _ c.in-Value-next.is
