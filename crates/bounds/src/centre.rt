@@ -11,7 +11,7 @@ const HORIZONTAL: usize = HEAD;
 const VERTICAL: usize = HEAD_WITH_TRUNK;
 
 // Twice the centre of each axis.
-#[derive(Drop)]
+#[derive(Clone, Copy)]
 pub struct Doubled {
     pub x: u32,
     pub y: u32,

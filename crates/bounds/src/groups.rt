@@ -4,7 +4,7 @@ ghost use Rattle.bounds.specs.Boxes.{grown, base_in, no_groups};
 ghost use Rattle.bounds.specs.Inner.{grown_at, with_symbol};
 
 // The least x and y and the greatest x + width and y + height of some symbols.
-#[derive(Drop)]
+#[derive(Clone, Copy)]
 pub struct Box {
     pub left: u16,
     pub top: u16,
@@ -63,7 +63,7 @@ pub const HEAD_WITH_TRUNK: usize = 1;
 pub const ALL: usize = 2;
 
 // The box of each group, and whether it has a symbol. A group without symbols has a box of zeros.
-#[derive(Drop)]
+#[derive(Clone, Copy)]
 pub struct Groups {
     pub boxes: [Box; 3],
     pub present: [bool; 3],

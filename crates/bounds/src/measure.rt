@@ -71,7 +71,7 @@ fn groups_of(codes: &[u16; 64], xs: &[u16; 64], ys: &[u16; 64], n: usize, sizes:
 }
 
 // The groups, or zeros with the refusal and its place.
-#[derive(Drop)]
+#[derive(Clone, Copy)]
 pub struct Measured {
     pub number: u8,
     pub place: usize,

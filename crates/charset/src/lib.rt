@@ -2,7 +2,7 @@
 #![tactic(auto)]
 
 // FSW is ASCII; SWU is Unicode in UTF-8, four bytes a character.
-#[derive(Drop)]
+#[derive(Clone, Copy)]
 pub enum Charset {
     Fsw,
     Swu,

@@ -30,7 +30,7 @@ pub fn asks_nothing(words: &[u16]) -> bool
 }
 
 // The first line that is no sign, or 0, and then how many lines meet the query.
-#[derive(Drop)]
+#[derive(Clone, Copy)]
 pub struct Found {
     pub wrong: usize,
     pub met: usize,

@@ -9,7 +9,7 @@ use lines::walk::{count, line};
 use token::refusal::{DICTIONARY_UNENDED, DONE, ENTRY_ABSENT};
 
 // Whether fetching is refused.
-#[derive(Drop)]
+#[derive(Clone, Copy)]
 pub struct Refusal {
     pub number: u8,
     pub place: usize,

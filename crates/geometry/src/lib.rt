@@ -15,14 +15,14 @@ use token::Written;
 use token::refusal::DONE;
 
 // The centre of each axis.
-#[derive(Drop)]
+#[derive(Clone, Copy)]
 pub struct Centre {
     pub x: f32,
     pub y: f32,
 }
 
 // The boxes of head, head with trunk and all, each with whether it has a symbol; and the centre, doubled and by itself.
-#[derive(Drop)]
+#[derive(Clone, Copy)]
 pub struct Bounds {
     pub number: u8,
     pub place: usize,

@@ -46,4 +46,4 @@ line_start bytes k = length (bytes_of (take (k - 1) (lines bytes)))
 
 -- where the part of a slice lies that starts at an offset: the slice's block of memory, and the offset in it
 abbrev pub place_in : Bor (List ℕ) → ℕ → ℕ × ℕ
-place_in s offset = (s.ptr.0, offset + s.ptr.1)
+place_in s offset = (s.ref_ptr.0, offset + s.ref_ptr.1)

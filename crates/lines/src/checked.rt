@@ -6,7 +6,7 @@ use super::walk::{MOST_LINES, count, is_ended};
 use token::refusal::{DICTIONARY_UNENDED, DONE, TOO_MANY};
 
 // The line count; refused, 0, and the place of both refusals is 0.
-#[derive(Drop)]
+#[derive(Clone, Copy)]
 pub struct Counted {
     pub number: u8,
     pub lines: usize,

@@ -5,7 +5,7 @@ pub mod judging;
 
 // Whether a sign meets a query, or the refusal. If it does not, unmet is the number of the first condition that does not hold;
 // if it does, witnesses has for each signbox item the first symbol that fits it, counted from 1.
-#[derive(Drop)]
+#[derive(Clone, Copy)]
 pub struct Verdict {
     pub number: u8,
     pub place: usize,

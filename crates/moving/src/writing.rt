@@ -16,7 +16,7 @@ const LEAST: u32 = LEAST_NUMBER as u32;
 const GREATEST: u32 = GREATEST_NUMBER as u32;
 
 // A whole number: what is added, and what is taken away.
-#[derive(Drop)]
+#[derive(Clone, Copy)]
 pub struct Amount {
     pub up: u32,
     pub down: u32,
@@ -69,7 +69,7 @@ impl Amount {
 }
 
 // The numbers of an axis after a move, and whether all of them stay in 250 to 749.
-#[derive(Drop)]
+#[derive(Clone, Copy)]
 pub struct Moved {
     pub stay: bool,
     pub most: u16,

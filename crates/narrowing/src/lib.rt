@@ -5,7 +5,7 @@ ghost use Rattle.std.specs.Prelude.{◌≡◌};
 ghost use Rattle.narrowing.specs.Narrowing.{not_narrowed};
 
 // What a narrowing call answers: how many of the listed entries it kept, and how many it dropped.
-#[derive(Drop)]
+#[derive(Clone, Copy)]
 pub struct Narrowed {
     pub number: u8,
     pub place: usize,

@@ -2,7 +2,7 @@
 ghost use Rattle.std.specs.Prelude.{◌≡◌, ◌<◌};
 
 // A code or a marker with its coordinate; or nothing, which says nothing of the text.
-#[derive(Drop)]
+#[derive(Clone, Copy)]
 pub enum Look {
     Found(u16, u16, u16),
     Nothing,

@@ -13,7 +13,7 @@ use charset::Charset;
 use token::reading::{LAST_LOCATION, LAST_WRITING, Token};
 
 // A code or a marker with its coordinate; the offset of the unit that is not allowed; or that the text ends.
-#[derive(Drop)]
+#[derive(Clone, Copy)]
 pub enum Placed {
     At(u16, u16, u16),
     Wrong(usize),

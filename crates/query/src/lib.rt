@@ -11,7 +11,7 @@ use token::refusal::DONE;
 pub mod words;
 
 // A query as read, in words (see queryitem::words). A refused reading has zeros.
-#[derive(Drop)]
+#[derive(Clone, Copy)]
 pub struct Reading {
     pub number: u8,
     pub place: usize,

@@ -12,7 +12,7 @@ use token::refusal::{
 };
 
 // What a reading says beside the words that it was lent.
-#[derive(Drop)]
+#[derive(Clone, Copy)]
 pub struct Head {
     pub number: u8,
     pub place: usize,

@@ -5,7 +5,7 @@ use charset::Charset;
 
 // The first is that of document 01, in FSW; the second that of draft -10, section 1.5 (document 02, Q-9), in either
 // character set.
-#[derive(Drop)]
+#[derive(Clone, Copy)]
 pub enum Edition {
     First,
     Second(Charset),

@@ -10,7 +10,7 @@ use token::reading::Token;
 
 // What is found: x and y, which are 0 where there is no coordinate, and the offset after it; the offset of what is
 // not allowed; or that the text ends.
-#[derive(Drop)]
+#[derive(Clone, Copy)]
 pub enum Place {
     Found(u16, u16, usize),
     Wrong(usize),

@@ -8,7 +8,7 @@ ghost use Rattle.queryitem.specs.Pieces.{given, open_at, failed_as, piece_at, nu
 use token::reading::{LAST_PUNCTUATION, Token};
 
 // An item as three numbers: codes of lo to hi, whose remainder by 16 is turn unless turn is 16.
-#[derive(Drop)]
+#[derive(Clone, Copy)]
 pub struct Numbers {
     pub lo: u16,
     pub hi: u16,
@@ -17,7 +17,7 @@ pub struct Numbers {
 
 // What reading an item finds: the item and the offset after it, the offset of the byte that is not allowed,
 // or that the text ends.
-#[derive(Drop)]
+#[derive(Clone, Copy)]
 pub enum Piece {
     Found(Numbers, usize),
     Wrong(usize),

@@ -11,7 +11,7 @@ use token::reading::Token;
 use token::refusal::{DONE, TEXT_SHORT, TEXT_WRONG};
 
 // How many were read, the offset after them, and that of the first reversed range or 0; or the refusal.
-#[derive(Drop)]
+#[derive(Clone, Copy)]
 pub struct Listed {
     pub number: u8,
     pub place: usize,

@@ -10,7 +10,7 @@ use token::refusal::{DONE, TEXT_SHORT, TEXT_WRONG};
 
 // How many items were read, the offset after them, that of the first reversed range or 0, whether one has more than
 // eight alternatives, and the offset after their rows; or the refusal.
-#[derive(Drop)]
+#[derive(Clone, Copy)]
 pub struct Count {
     pub number: u8,
     pub place: usize,

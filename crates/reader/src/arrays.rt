@@ -28,7 +28,7 @@ fn put64(a: &mut [u16; 64], n: usize, v: u16)
 }
 
 // How many were read into lent arrays, and the offset after them; or the refusal.
-#[derive(Drop)]
+#[derive(Clone, Copy)]
 pub struct Count {
     pub number: u8,
     pub place: usize,
@@ -114,7 +114,7 @@ fn symbols_into(
 
 // What a reading says beside the arrays that it was lent. The place is that of a refusal; of what was read it is the offset
 // where that ends, and 0 once the end of the text is judged.
-#[derive(Drop)]
+#[derive(Clone, Copy)]
 pub struct Head {
     pub number: u8,
     pub place: usize,

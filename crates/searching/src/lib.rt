@@ -7,7 +7,7 @@ ghost use Rattle.searching.specs.Searching.{not_searched};
 pub mod words;
 
 // What searching answers: how many lines the dictionary has, and how many entries were written.
-#[derive(Drop)]
+#[derive(Clone, Copy)]
 pub struct Searched {
     pub number: u8,
     pub place: usize,

@@ -17,7 +17,7 @@ pub mod sets;
 
 // A sign as read. The marker is 1 to 4 for B, L, M, R, and the maximum is as stated. The offsets are those of the bytes where
 // the symbols' keys begin in the text, in SWU their characters. Places after the counts hold 0.
-#[derive(Drop)]
+#[derive(Clone, Copy)]
 pub struct Sign {
     pub marker: u16,
     pub max_x: u16,
@@ -32,7 +32,7 @@ pub struct Sign {
     pub symbol_offsets: [u16; 64],
 }
 
-#[derive(Drop)]
+#[derive(Clone, Copy)]
 pub struct Reading {
     pub number: u8,
     pub place: usize,

@@ -18,14 +18,14 @@ use mergesort::parts::arrange_entries;
 use token::refusal::{DONE, LINE_WRONG, LIST_WRONG, ROOM_SHORT};
 
 // What sorting answers.
-#[derive(Drop)]
+#[derive(Clone, Copy)]
 pub struct Sorted {
     pub number: u8,
     pub place: usize,
 }
 
 // The refusal of a call, or how many lines its dictionary has.
-#[derive(Drop)]
+#[derive(Clone, Copy)]
 struct Checked {
     number: u8,
     place: usize,

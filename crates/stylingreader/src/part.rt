@@ -7,7 +7,7 @@ use token::refusal::{DONE, TEXT_SHORT, TEXT_WRONG};
 // A part that was read: its refusal; or the offset after it, whether its zooms are in range with at most two decimals and its
 // colour names not too long, and what it comes to: the number that its digits say, or how many colours or symbol styles it has.
 // The two tests stand apart: side by side the compiler would load both at once, and wait for the two stores of one byte each.
-#[derive(Drop)]
+#[derive(Clone, Copy)]
 pub struct Part {
     pub number: u8,
     pub zooms: bool,

@@ -13,7 +13,7 @@ use token::refusal::{DONE, TEXT_WRONG};
 
 // A styling string that was read: its refusal, or whether its zooms are in range with at most two decimals, its colour names not
 // too long, and its symbol styles not too many.
-#[derive(Drop)]
+#[derive(Clone, Copy)]
 pub struct Found {
     pub number: u8,
     pub place: usize,

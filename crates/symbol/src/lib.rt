@@ -15,7 +15,7 @@ use writer::tokens::put_symbol;
 const LAST_CODE: u64 = 62592;
 
 // What reading a key or a character answers: the symbol's code, 0 for null.
-#[derive(Drop)]
+#[derive(Clone, Copy)]
 pub struct Code {
     pub number: u8,
     pub place: usize,

@@ -5,7 +5,7 @@ pub mod reading;
 pub mod refusal;
 
 // What a call that writes text answers: the text's length. The text stands at the start of the output.
-#[derive(Drop)]
+#[derive(Clone, Copy)]
 pub struct Written {
     pub number: u8,
     pub place: usize,

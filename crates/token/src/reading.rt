@@ -29,7 +29,7 @@ pub const NUMBERS: u32 = 0x1d80c - LEAST_NUMBER as u32;
 pub const SYMBOLS: u32 = 0x40000;
 
 // What reading one token finds: its value, the offset of the unit that is not allowed, or that the text ends.
-#[derive(Drop)]
+#[derive(Clone, Copy)]
 pub enum Token {
     Value(u16),
     Wrong(usize),

@@ -46,7 +46,7 @@ pub fn judge_text<'a>(set: Charset, text: &'a [u8], words: &'a [u16]) -> Verdict
 }
 
 // The number of a verdict, and whether the query is met: what a dictionary asks of each line.
-#[derive(Drop)]
+#[derive(Clone, Copy)]
 pub struct Meeting {
     pub number: u8,
     pub met: bool,

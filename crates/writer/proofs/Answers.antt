@@ -18,11 +18,11 @@ use Rattle.writer.proofs.Writes.{wrote_all}
 
 -- the answer r and the memory p to a result x, of a call that was lent the memory o
 abbrev pub Answers : (o : List ℕ) → Result (List ℕ) → Written → List ℕ → Type 0
-Answers o x r p = (r ≡ written o x) × (p ≡ output o x)
+Answers o x r p = record { answer : r ≡ written o x; memory : p ≡ output o x }
 
 pub answers_refused : (o : List ℕ) {x : Result (List ℕ)} {number place : ℕ} → x ≡ refusal number place → Answers o x (record { number = number; place = place; length = 0 }) o
 unfolding written output
-answers_refused o e = (rw e, rw e)
+answers_refused o e = record { answer = rw e; memory = rw e }
 
 -- too little room for the text
 pub answers_short : (o : List ℕ) {x : Result (List ℕ)} {text : List ℕ} {size : ℕ} → x ≡ done text → size ≡ length text → length o < size
@@ -30,14 +30,14 @@ pub answers_short : (o : List ℕ) {x : Result (List ℕ)} {text : List ℕ} {si
 unfolding written output
 answers_short o {text = text} e n h =
     let short = lt-ltb (length o) (length text) (omega arith) in
-    (rw (e, short, n), rw (e, short))
+    record { answer = rw (e, short, n); memory = rw (e, short) }
 
 -- the text written at the start
 pub answers_done : {o p : List ℕ} {r : ℕ} {x : Result (List ℕ)} {text : List ℕ} → x ≡ done text → Wrote o p 0 r text → Answers o x (record { number = 0; place = 0; length = r }) p
 unfolding written output
 answers_done {o} {text = text} e w =
     let h = le-ltb (length o) (length text) (omega arith) in
-    (rw (e, h, (wrote_all w).0), rw (e, h) (wrote_all w).1)
+    record { answer = rw (e, h, (wrote_all w).0); memory = rw (e, h) (wrote_all w).1 }
 
 -- a call that has room for its text
 pub leaves : (o : List ℕ) {x : Result (List ℕ)} {text : List ℕ} → x ≡ done text → length text ≤ length o → Leaves o x text

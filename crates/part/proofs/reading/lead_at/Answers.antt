@@ -1,0 +1,8 @@
+use Rattle.charset.specs.Tokens.{tokens}
+use Rattle.charset.proofs.Sets.{lawful}
+use Rattle.grammar.proofs.Sign.{lead_fixed}
+use Rattle.part.proofs.Placing.{sure_placed}
+use Rattle.part.proofs.reading.lead_at.Goals as goal
+
+pub returns : goal.returns
+returns c = sure_placed _ _ _ (lead_fixed (tokens c.args.set) (lawful c.args.set)) _ _ _ c.quick_lead-quick.ensures _ _ _ c.in-Found.is
