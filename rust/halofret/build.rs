@@ -1,4 +1,4 @@
-//! Finds `libhalofret.a`, which `rt staticlib halofret` writes.
+//! Finds `libhalofret.a`, which `rt lib` in crates/halofret writes.
 
 use std::path::PathBuf;
 use std::{env, process};
@@ -8,7 +8,7 @@ fn main() {
         Some(directory) => PathBuf::from(directory),
         None => {
             let package = env::var_os("CARGO_MANIFEST_DIR").expect("cargo sets it");
-            PathBuf::from(package).join("../../target/staticlib")
+            PathBuf::from(package).join("../../crates/halofret/out")
         }
     };
     let library = directory.join("libhalofret.a");
@@ -16,7 +16,7 @@ fn main() {
     println!("cargo:rerun-if-changed={}", library.display());
     if !library.is_file() {
         eprintln!(
-            "There is no {}: run `rt staticlib halofret` at the top of the repository, \
+            "There is no {}: run `rt lib` in crates/halofret, \
              or name the library's directory in HALOFRET_LIB.",
             library.display()
         );

@@ -43,20 +43,21 @@ use Rattle.dictionary.proofs.Asked.{asked_refused, asked_done}
 module _ {e : Edition} {s : List ℕ} {h : Head} {words : List ℕ} (v : ReadInto e s word_count h words) (set : Charset) (dict list : List ℕ) where
   -- what the call answers, and the list memory after it
   abbrev Answers : Searched → List ℕ → Type 0
-  Answers r after = (r ≡ searched set dict list (e, s)) × (after ≡ output list (found set dict (e, s)))
+  Answers r after = record { answer : r ≡ searched set dict list (e, s); memory : after ≡ output list (found set dict (e, s)) }
 
   pub with_refused : (r : Searched) → (h.number ≡ 0 → ⊥) → r ≡ not_searched h.number h.place → Answers r list
   unfolding searched found output
-  with_refused r z y = let t = asked_refused v set dict z in (y ∙ rw t, rw t)
+  with_refused r z y = let t = asked_refused v set dict z in record { answer = y ∙ rw t; memory = rw t }
 
   pub with_done : h.number ≡ 0 → (r : Searched) (after : List ℕ) → (r, after) ≡ searched_words set dict list words → Answers r after
   unfolding searched found searched_words writing
   with_done z r after j =
       let t = sym (asked_done v set dict z) in
-      let b = book_of (set, dict) in (
-        ap (λ p. p.0) j ∙ ap (λ q. searched_as (length (lines_of dict)) (in_room (length list) (found_in q b))) t,
-        ap (λ p. p.1) j ∙ ap (λ q. output list (found_in q b)) t,
-      )
+      let b = book_of (set, dict) in
+      record {
+        answer = ap (λ p. p.0) j ∙ ap (λ q. searched_as (length (lines_of dict)) (in_room (length list) (found_in q b))) t;
+        memory = ap (λ p. p.1) j ∙ ap (λ q. output list (found_in q b)) t;
+      }
 
 -- THE LAWS
 -- `Q` asks nothing, in every edition

@@ -53,15 +53,13 @@ module _ {c : Charset} {dict : List ℕ} {count : ℕ} {words listed before bits
   wrong_is : first_wrong c dict entries ≡ first_bad (passes c dict listed) (up_to count)
   wrong_is = bad_keep (readable c dict) (bit_of listed) (up_to count)
 
-  pub seeking_end : count ≤ passed → (record { wrong = 0; met = met } ≡ found_in c dict entries (meets_words c dict words)) × Kept 0 (bit_of listed) (meets_words c dict words) count before bits
+  pub seeking_end : count ≤ passed → record { found : record { wrong = 0; met = met } ≡ found_in c dict entries (meets_words c dict words); kept : Kept 0 (bit_of listed) (meets_words c dict words) count before bits }
   unfolding found_as
   seeking_end h =
       let z : 0 ≡ first_wrong c dict entries = bad_none (passes c dict listed) passed count (first_bad (passes c dict listed) (up_to count)) w.good h ∙ sym wrong_is in
       let m : met ≡ length (keep (meets_words c dict words) entries)
-      = passed_end w.counted count w.walk.most h ∙ ap length (sym (keep_keep (bit_of listed) (meets_words c dict words) (up_to count))) in (
-        rw (← z, m),
-        record { long = w.walk.long; holds = λ z. walking_end w.walk h },
-      )
+      = passed_end w.counted count w.walk.most h ∙ ap length (sym (keep_keep (bit_of listed) (meets_words c dict words) (up_to count))) in
+      record { found = rw (← z, m); kept = record { long = w.walk.long; holds = λ z. walking_end w.walk h } }
 
   module _ (h : passed < count) where
     module _ {end : ℕ} (l : Line dict (passed + 1) start end) {v : Meeting} (e : v ≡ listed_verdict c words (take (end - start) (drop start dict)) listed (passed + 1)) where
@@ -69,14 +67,12 @@ module _ {c : Charset} {dict : List ℕ} {count : ℕ} {words listed before bits
       verdict = e ∙ ap (λ line. listed_verdict c words line listed (passed + 1)) l.part
 
       pub seeking-wrong : (v.number ≡ 0 → ⊥)
-          → (record { wrong = passed + 1; met = 0 } ≡ found_in c dict entries (meets_words c dict words)) × Kept (passed + 1) (bit_of listed) (meets_words c dict words) count before bits
+          → record { found : record { wrong = passed + 1; met = 0 } ≡ found_in c dict entries (meets_words c dict words); kept : Kept (passed + 1) (bit_of listed) (meets_words c dict words) count before bits }
       unfolding found_as
       seeking-wrong z =
           let t = listed_wrong_lem words c dict listed (passed + 1) verdict z in
-          let b : passed + 1 ≡ first_wrong c dict entries = bad_here (passes c dict listed) passed count (first_bad (passes c dict listed) (up_to count)) w.good h t ∙ sym wrong_is in (
-            rw (← b, ne_eqb (passed + 1) 0 (λ q. omega arith)),
-            record { long = w.walk.long; holds = λ q. absurd (omega arith) },
-          )
+          let b : passed + 1 ≡ first_wrong c dict entries = bad_here (passes c dict listed) passed count (first_bad (passes c dict listed) (up_to count)) w.good h t ∙ sym wrong_is in
+          record { found = rw (← b, ne_eqb (passed + 1) 0 (λ q. omega arith)); kept = record { long = w.walk.long; holds = λ q. absurd (omega arith) } }
 
       module _ (z : v.number ≡ 0) where
         later : first_bad (passes c dict listed) (entries_from (passed + 1 + 1) (count - (passed + 1))) ≡ first_bad (passes c dict listed) (up_to count)

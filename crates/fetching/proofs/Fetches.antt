@@ -129,12 +129,12 @@ accepted d s k r e z =
 
 -- the part and its place, by what fetching comes to
 abbrev pub Part : Bor (List ℕ) → Bor (List ℕ) → List ℕ → ℕ × ℕ → Result Entry → Type 0
-Part d s line place f = (line ≡ fetched_line d.now s.now f) × (place ≡ fetched_place d s f)
+Part d s line place f = record { bytes : line ≡ fetched_line d.now s.now f; place : place ≡ fetched_place d s f }
 
 module _ (d s : Bor (List ℕ)) (k : ℕ) where
   no_part : (f : Result Entry) → ((refusal_as f).number ≡ 0 → ⊥) → Part d s [] (d.ref_ptr.0, 0 + d.ref_ptr.1) f
   unfolding fetched_line fetched_place
-  no_part (refusal number place) z = (refl, rw (zero-add d.ref_ptr.1))
+  no_part (refusal number place) z = record { bytes = refl; place = rw (zero-add d.ref_ptr.1) }
   no_part (done e) z = absurd (z refl)
 
   pub refused_part : (r : Refusal) → r ≡ refusal_as (fetching d.now s.now k) → (r.number ≡ 0 → ⊥)
@@ -144,11 +144,11 @@ module _ (d s : Bor (List ℕ)) (k : ℕ) where
   module _ (a : Accepted d.now s.now k) (n : ℕ) (e : n ≡ length (lines d.now)) where
     pub first_part : k ≤ n → Part d s (line_of d.now k) (place_in d (line_start d.now k)) (fetching d.now s.now k)
     unfolding fetched_line fetched_place
-    first_part h = rw (a.is, ← e, le-leb k n h) (refl, refl)
+    first_part h = rw (a.is, ← e, le-leb k n h) (record { bytes = refl; place = refl })
 
     pub second_part : n < k → Part d s (line_of s.now (k - n)) (place_in s (line_start s.now (k - n))) (fetching d.now s.now k)
     unfolding fetched_line fetched_place
-    second_part h = rw (a.is, ← e, lt-leb k n h) (refl, refl)
+    second_part h = rw (a.is, ← e, lt-leb k n h) (record { bytes = refl; place = refl })
 
 -- the line of the two dictionaries as one
 module _ (d s : List ℕ) (k : ℕ) (a : Accepted d s k) where

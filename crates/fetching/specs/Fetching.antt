@@ -40,7 +40,7 @@ fetched_line first second (done (in_first k)) = line_of first k
 fetched_line first second (done (in_second k)) = line_of second k
 
 unfoldable pub fetched_place : Bor (List ℕ) → Bor (List ℕ) → Result Entry → ℕ × ℕ
-fetched_place first second (refusal number place) = first.ptr
+fetched_place first second (refusal number place) = first.ref_ptr
 fetched_place first second (done (in_first k)) = place_in first (line_start first.now k)
 fetched_place first second (done (in_second k)) = place_in second (line_start second.now k)
 

@@ -17,10 +17,10 @@ module _ (set : Charset) (text : List ℕ) (h : Head) (prefix codes xs ys : List
   module _ (before after : List ℕ) where
     -- the answer, and the lent sign after the call
     abbrev Told : Type 0
-    Told = (h.number ∷ h.place ∷ [] ≡ reading_numbers (reading_in set text)) × (after ≡ sign_left before (reading_in set text))
+    Told = record { answer : h.number ∷ h.place ∷ [] ≡ reading_numbers (reading_in set text); memory : after ≡ sign_left before (reading_in set text) }
 
     pub told_done : h.number ≡ 0 → after ≡ sign_numbers (sign_in set h prefix codes xs ys) → Told
-    told_done z e = rw (← reading_done set text h prefix codes xs ys v z) (numbers (known set text h prefix codes xs ys v), e)
+    told_done z e = rw (← reading_done set text h prefix codes xs ys v z) (record { answer = numbers (known set text h prefix codes xs ys v); memory = e })
       where
         numbers : Known set text h prefix codes xs ys → h.number ∷ h.place ∷ [] ≡ 0 ∷ 0 ∷ []
         numbers (not_read q n) = absurd (omega arith)
@@ -31,5 +31,5 @@ module _ (set : Charset) (text : List ℕ) (h : Head) (prefix codes xs ys : List
     told_refused z e = go (known set text h prefix codes xs ys v)
       where
         go : Known set text h prefix codes xs ys → Told
-        go (not_read q n) = rw q (refl, e ∙ when_refused h.number _ before z)
+        go (not_read q n) = rw q (record { answer = refl; memory = e ∙ when_refused h.number _ before z })
         go (was_read m q k a) = absurd (z (ap (λ h. h.number) k))

@@ -1,9 +1,9 @@
-// Reading standard input to its end, or knowing that it could not be read.
+// Reading an input to its end, or knowing that it could not be read.
 #![tactic(auto)]
 
 ghost use Rattle.io.specs.Counts.{IsPrefixLen};
 
-use libc::STDIN_FILENO;
+use std::io::Read;
 
 // What was read to the start of a buffer: how many bytes, and whether a read failed.
 #[derive(Clone, Copy)]
@@ -13,23 +13,28 @@ pub struct Input {
 }
 
 // One read; no bytes without a failure are the end of the input.
-fn read_once(buf: &mut [u8]) -> Input
+fn read_once<R: Read>(reader: &mut R, buf: &mut [u8]) -> Input
     ensures { IsPrefixLen result.length buf.new }
 {
-    let got = libc::read(STDIN_FILENO, buf);
-    Input {
-        length: io::count(got, buf),
-        failed: got < 0,
+    match reader.read(buf) {
+        Ok(length) => Input {
+            length,
+            failed: false,
+        },
+        Err(_) => Input {
+            length: 0,
+            failed: true,
+        },
     }
 }
 
 // Reads until the input ends, the buffer is full or a read fails.
-pub fn read_input(buf: &mut [u8]) -> Input
+pub fn read_input<R: Read>(reader: &mut R, buf: &mut [u8]) -> Input
     ensures { IsPrefixLen result.length buf.new }
 {
     let mut n = 0;
     while n < buf.len() {
-        let more = read_once(&mut buf[n..]);
+        let more = read_once(reader, &mut buf[n..]);
         if more.length == 0 {
             return Input {
                 length: n,

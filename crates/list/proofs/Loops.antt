@@ -62,10 +62,10 @@ unfolding keep
 compacting_start list n test = record { most = omega arith; least = omega arith; long = refl; count = refl; memory = sym (filled_none list) }
 
 module _ {list₀ : List ℕ} {test : ℕ → Bool} {list : List ℕ} {n k i : ℕ} (c : Compacting list₀ n test list k i) where
-  pub compacting_end : n ≤ i → (k ≡ length (keep test (take n list₀))) × (list ≡ filled n (keep test (take n list₀)) (drop n list₀))
+  pub compacting_end : n ≤ i → record { value : k ≡ length (keep test (take n list₀)); list_after : list ≡ filled n (keep test (take n list₀)) (drop n list₀) }
   compacting_end h =
       let s : i ≡ n = omega arith in
-      (c.count ∙ ap (λ m. length (keep test (take m list₀))) s, c.memory ∙ ap (λ m. filled m (keep test (take m list₀)) (drop m list₀)) s)
+      record { value = c.count ∙ ap (λ m. length (keep test (take m list₀))) s; list_after = c.memory ∙ ap (λ m. filled m (keep test (take m list₀)) (drop m list₀)) s }
 
   pub compacting_room : i < n → n ≤ length list₀ → (v : ℕ) → k < length (set list i v)
   compacting_room h room v = omega (arith, c.least, c.long, length-set list i v)

@@ -35,8 +35,8 @@ pub record Marking (list : List ℕ) (n count : ℕ) (before bits : List ℕ) (i
 refused : (count : ℕ) (entries before bits : List ℕ) → length bits ≡ length before → ListsApart false count entries before bits
 refused count entries before bits l = record { long = l; marks = λ z. absurd (true≢false (sym z)) }
 
-pub marking_short : (list : List ℕ) (n count : ℕ) (bits : List ℕ) → length list < n → (false ≡ listed (distinct count) list n) × ListsApart false count (take n list) bits bits
-marking_short list n count bits h = (sym (listed_short (distinct count) list n h), refused count (take n list) bits bits refl)
+pub marking_short : (list : List ℕ) (n count : ℕ) (bits : List ℕ) → length list < n → record { apart : false ≡ listed (distinct count) list n; lists : ListsApart false count (take n list) bits bits }
+marking_short list n count bits h = record { apart = sym (listed_short (distinct count) list n h); lists = refused count (take n list) bits bits refl }
 
 none_there : (bits : List ℕ) → EndsBefore 1 bits → (e : ℕ) → 0 < e → bit_of bits e ≡ false
 none_there bits n e h = let s : 1 + (e - 1) ≡ e = omega arith in left_out bits e (rw s at (ends_later bits 1 (e - 1) n))
@@ -51,12 +51,13 @@ marking_start list n count bits h r none = record {
 }
 
 module _ {list : List ℕ} {n count : ℕ} {before bits : List ℕ} {i : ℕ} (c : Marking list n count before bits i) where
-  pub marking_end : n ≤ i → (true ≡ listed (distinct count) list n) × ListsApart true count (take n list) before bits
+  pub marking_end : n ≤ i → record { apart : true ≡ listed (distinct count) list n; lists : ListsApart true count (take n list) before bits }
   marking_end h =
-      let s : i ≡ n = omega (arith, c.most) in (
-        sym (listed_is (distinct count) list n c.room ∙ rw s at c.apart),
-        record { long = c.long; marks = λ z. rw s at c.marks },
-      )
+      let s : i ≡ n = omega (arith, c.most) in
+      record {
+        apart = sym (listed_is (distinct count) list n c.room ∙ rw s at c.apart);
+        lists = record { long = c.long; marks = λ z. rw s at c.marks };
+      }
 
   module _ (h : i < n) where
     abbrev entry : ℕ
@@ -72,18 +73,18 @@ module _ {list : List ℕ} {n count : ℕ} {before bits : List ℕ} {i : ℕ} (c
         distinct_at count entry (take i list) (drop (i + 1) (take n list))
         (ap (distinct count) (sym (parts list n i c.room h)) ∙ listed_valid (distinct count) list n v)
 
-    not-distinct : (Good → ⊥) → (false ≡ listed (distinct count) list n) × ListsApart false count (take n list) before bits
-    not-distinct z = (go (listed (distinct count) list n) refl, refused count (take n list) before bits c.long)
+    not-distinct : (Good → ⊥) → record { apart : false ≡ listed (distinct count) list n; lists : ListsApart false count (take n list) before bits }
+    not-distinct z = record { apart = go (listed (distinct count) list n) refl; lists = refused count (take n list) before bits c.long }
       where
         go : (t : Bool) → listed (distinct count) list n ≡ t → false ≡ t
         go true q = absurd (z (good q))
         go false q = refl
 
-    pub marking_zero : entry ≡ 0 → (false ≡ listed (distinct count) list n) × ListsApart false count (take n list) before bits
+    pub marking_zero : entry ≡ 0 → record { apart : false ≡ listed (distinct count) list n; lists : ListsApart false count (take n list) before bits }
     unfolding Good
     marking_zero z = not-distinct (λ g. omega (arith, g.0))
 
-    pub marking_high : count < entry → (false ≡ listed (distinct count) list n) × ListsApart false count (take n list) before bits
+    pub marking_high : count < entry → record { apart : false ≡ listed (distinct count) list n; lists : ListsApart false count (take n list) before bits }
     unfolding Good
     marking_high z = not-distinct (λ g. omega (arith, g.1))
 
@@ -94,7 +95,7 @@ module _ {list : List ℕ} {n count : ℕ} {before bits : List ℕ} {i : ℕ} (c
       pub marking-space : entry / 8 < length bits
       marking-space = omega (arith, c.marks.room)
 
-      pub marking-twice : bit_of bits entry ≡ true → (false ≡ listed (distinct count) list n) × ListsApart false count (take n list) before bits
+      pub marking-twice : bit_of bits entry ≡ true → record { apart : false ≡ listed (distinct count) list n; lists : ListsApart false count (take n list) before bits }
       unfolding Good
       marking-twice t = not-distinct (λ g. true≢false (sym t ∙ c.marks.is entry over m ∙ g.2))
 

@@ -104,8 +104,8 @@ pub record Adding (list : List ℕ) (n count : ℕ) (before bits : List ℕ) (la
 refused : (count : ℕ) (entries before bits : List ℕ) → length bits ≡ length before → Lists false count entries before bits
 refused count entries before bits l = record { long = l; has = λ z. absurd (true≢false (sym z)) }
 
-pub adding_short : (list : List ℕ) (n count : ℕ) (bits : List ℕ) → length list < n → (false ≡ listed (rising count) list n) × Lists false count (take n list) bits bits
-adding_short list n count bits h = (sym (listed_short (rising count) list n h), refused count (take n list) bits bits refl)
+pub adding_short : (list : List ℕ) (n count : ℕ) (bits : List ℕ) → length list < n → record { rises : false ≡ listed (rising count) list n; lists : Lists false count (take n list) bits bits }
+adding_short list n count bits h = record { rises = sym (listed_short (rising count) list n h); lists = refused count (take n list) bits bits refl }
 
 pub adding_start : (list : List ℕ) (n count : ℕ) (bits : List ℕ) → n ≤ length list → count / 8 < length bits → EndsBefore 1 bits → Adding list n count bits bits 0 0
 unfolding entries_from keep
@@ -121,14 +121,15 @@ adding_start list n count bits h r e = record {
 }
 
 module _ {list : List ℕ} {n count : ℕ} {before bits : List ℕ} {last i : ℕ} (c : Adding list n count before bits last i) where
-  pub adding_end : n ≤ i → (true ≡ listed (rising count) list n) × Lists true count (take n list) before bits
+  pub adding_end : n ≤ i → record { rises : true ≡ listed (rising count) list n; lists : Lists true count (take n list) before bits }
   adding_end h =
       let s : i ≡ n = omega (arith, c.most) in
       let l : length (take n list) ≤ i = omega (arith, length-take n list) in
-      let m : last + (count - last) ≡ count = omega (arith, c.within) in (
-        sym (c.same ∙ rw (drop_of_length-le (take n list) l) (rising_end last count)),
-        record { long = c.long; has = λ z. rw (← m) (none_later bits last (count - last) c.ends ∙ c.has ∙ rw s) },
-      )
+      let m : last + (count - last) ≡ count = omega (arith, c.within) in
+      record {
+        rises = sym (c.same ∙ rw (drop_of_length-le (take n list) l) (rising_end last count));
+        lists = record { long = c.long; has = λ z. rw (← m) (none_later bits last (count - last) c.ends ∙ c.has ∙ rw s) };
+      }
 
   module _ (h : i < n) where
     abbrev entry : ℕ
@@ -139,11 +140,11 @@ module _ {list : List ℕ} {n count : ℕ} {before bits : List ℕ} {last i : �
         let m : i < length (take n list) = omega (arith, length-take-le n list c.room) in
         c.same ∙ rw (add-one, drop-cons (take n list) i 0 m, get_or-take n list i 0 h)
 
-    pub adding_low : entry ≤ last → (false ≡ listed (rising count) list n) × Lists false count (take n list) before bits
-    adding_low l = (sym (turn ∙ rising_low last count entry (drop (i + 1) (take n list)) l), refused count (take n list) before bits c.long)
+    pub adding_low : entry ≤ last → record { rises : false ≡ listed (rising count) list n; lists : Lists false count (take n list) before bits }
+    adding_low l = record { rises = sym (turn ∙ rising_low last count entry (drop (i + 1) (take n list)) l); lists = refused count (take n list) before bits c.long }
 
-    pub adding_high : count < entry → (false ≡ listed (rising count) list n) × Lists false count (take n list) before bits
-    adding_high l = (sym (turn ∙ rising_high last count entry (drop (i + 1) (take n list)) l), refused count (take n list) before bits c.long)
+    pub adding_high : count < entry → record { rises : false ≡ listed (rising count) list n; lists : Lists false count (take n list) before bits }
+    adding_high l = record { rises = sym (turn ∙ rising_high last count entry (drop (i + 1) (take n list)) l); lists = refused count (take n list) before bits c.long }
 
     module _ (l : last < entry) (m : entry ≤ count) where
       adding-ends : EndsBefore entry bits

@@ -7,8 +7,6 @@ use mathlib.Core.Option.{none, some}
 use lib.ListN.{length}
 use native.Mathlib.Omega.{arith}
 use borrow.Author.Tests.{eq-eqb, ne_eqb}
-use types.Run.{OneOf}
-use denote.Enum.Declared.{tag_of}
 use Rattle.format.specs.Located.{Located, found, wrong_at, short_here, locate, on_found}
 use Rattle.format.proofs.At.{fixed_got, either_first, either_passed}
 use Rattle.charset.specs.Bytes.{byte, digit}
@@ -16,9 +14,7 @@ use Rattle.charset.proofs.FixedByte.{digit_wrong}
 use Rattle.token.specs.declared.reading.Token.{Token}
 use Rattle.token.specs.declared.reading.Token.TheVariants as token
 use Rattle.token.specs.Token.{told, token_at}
-use Rattle.token.specs.contracts.reading.Token.{the_type}
 use Rattle.token.proofs.Told.{Fails, value_fails}
-use Rattle.token.proofs.Keys.{not_wrong}
 use Rattle.querygrammar.specs.Spelling.{or_any, open_of}
 use Rattle.querygrammar.proofs.Items.{any_delimited}
 use Rattle.queryitem.specs.declared.reading.Piece.{Piece}
@@ -46,11 +42,11 @@ module _ (top : ℕ) (s : List ℕ) (at : ℕ) where
   right_told (wrong_at p) h = refl
   right_told short_here h = refl
 
-  pub open_digit : (t : Token) → t ≡ token_at (digit 0 top) s at → OneOf (0 ∷ 2 ∷ []) (tag_of the_type t) → t ≡ open_at top s at
+  pub open_digit : (t : Token) → t ≡ token_at (digit 0 top) s at → ((p : ℕ) → t ≡ token.Wrong p → ⊥) → t ≡ open_at top s at
   unfolding token_at
   open_digit t e h =
       e ∙ left_told (locate (digit 0 top) s at)
-      ∙ open_as inl (locate (digit 0 top) s at) (either_first (digit 0 top) (byte 117) s at (λ z. not_wrong t at h (e ∙ ap told z)))
+      ∙ open_as inl (locate (digit 0 top) s at) (either_first (digit 0 top) (byte 117) s at (λ z. h at (e ∙ ap told z)))
 
   module _ (k : top ≤ 15) (p : ℕ) (t : Token) (e : t ≡ token_at (digit 0 top) s at) (q : t ≡ token.Wrong p) where
     open-letter : locate (or_any top) s at ≡ on_found inr (locate (byte 117) s at)

@@ -77,9 +77,9 @@ pub record LeadingPrefix (set : Charset) (s : List ℕ) (r : Count) (codes : Lis
 
 -- a sign that was read, in lent arrays, and its place
 abbrev pub ReadAs : Result (Meaning × ℕ) → Head → List ℕ → List ℕ → List ℕ → List ℕ → Type 0
-ReadAs (refusal number place) h prefix codes xs ys = h ≡ no_head number place
-ReadAs (done p) h prefix codes xs ys =
-    (h ≡ head_of p.0 (length p.0.prefix) p.1) × ((prefix ≡ padded 32 p.0.prefix) × HoldsSymbols p.0.symbols codes xs ys)
+ReadAs (refusal number place) h array codes xs ys = h ≡ no_head number place
+ReadAs (done p) h array codes xs ys =
+    (h ≡ head_of p.0 (length p.0.prefix) p.1) × ((array ≡ padded 32 p.0.prefix) × HoldsSymbols p.0.symbols codes xs ys)
 
 -- the sign that stands at the start, and where it ends
 pub record SignInto (set : Charset) (s : List ℕ) (h : Head) (prefix codes xs ys : List ℕ) : Type 0 where

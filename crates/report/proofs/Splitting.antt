@@ -54,7 +54,8 @@ module _ (text : List ℕ → List ℕ → List ℕ) (x : List ℕ) where
   whole = text (query_in x) (dictionary_in x)
 
   pub answered : {q d o p : List ℕ} {r : ℕ} → q ≡ query_in x → d ≡ dictionary_in x → Wrote o p 0 r (text q d)
-      → Part r p × ((r ≡ length whole) × (p ≡ whole ++ drop (length whole) o))
+      → record { room : Part r p; answer : r ≡ length whole; memory : p ≡ whole ++ drop (length whole) o }
   answered {p = p} {r} e f w =
       let room : r ≤ length p = omega arith in
-      ((room, sym (length-take-le r p room)), wrote_all (wrote_as w (λ i. text (e i) (f i))))
+      let all = wrote_all (wrote_as w (λ i. text (e i) (f i))) in
+      record { room = (room, sym (length-take-le r p room)); answer = all.0; memory = all.1 }

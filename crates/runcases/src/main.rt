@@ -4,9 +4,11 @@
 #![tactic(auto)]
 
 use charset::Charset;
-use libc::STDOUT_FILENO;
 use querygrammar::Edition;
 use runs::run_queries;
+
+// The file descriptor of standard output.
+const STDOUT_FILENO: i32 = 1;
 
 fn put(key: &[u8], n: usize) {
     io::write_all(STDOUT_FILENO, key);

@@ -3,23 +3,24 @@
 #![tactic(auto)]
 
 use input::read_input;
-use libc::{STDERR_FILENO, STDOUT_FILENO};
+use std::io::Write;
 
-fn main() {
+fn main(rt: HostRuntime) {
     // One byte more than the largest good input: what is longer is seen to be too long.
     let mut input = [0u8; 50178];
-    let read = read_input(&mut input);
+    let read = read_input(&mut rt.stdin(), &mut input);
     if read.failed {
-        io::write_all(
-            STDERR_FILENO,
-            b"search: standard input could not be read.\n",
-        );
+        let _ = rt
+            .stderr()
+            .write_all(b"search: standard input could not be read.\n");
         return;
     }
     let n = read.length;
     let mut out = [0u8; 12320];
     let k = report::report(&input[..n], &mut out);
-    if !io::write_all(STDOUT_FILENO, &out[..k]) {
-        io::write_all(STDERR_FILENO, b"search: the answer could not be written.\n");
+    if rt.stdout().write_all(&out[..k]).is_err() {
+        let _ = rt
+            .stderr()
+            .write_all(b"search: the answer could not be written.\n");
     }
 }

@@ -107,14 +107,17 @@ module _ (set : Charset) (dict list : List ℕ) (n : ℕ) (spare : List ℕ) (c 
   abbrev book : Book
   book = book_of (set, dict)
 
-  pub refused : (c.number ≡ 0 → ⊥) → (record { number = c.number; place = c.place } ≡ sorted_as (sorted set dict list n spare))
-      × ((list ≡ list_after list n (sorted set dict list n spare)) × (spare ≡ spare_after spare n (sorted set dict list n spare)))
+  pub refused : (c.number ≡ 0 → ⊥) → record {
+    answer : record { number = c.number; place = c.place } ≡ sorted_as (sorted set dict list n spare);
+    memory : list ≡ list_after list n (sorted set dict list n spare);
+    second : spare ≡ spare_after spare n (sorted set dict list n spare);
+  }
   unfolding sorted
   refused z = go (sorted_in book list n (length spare)) k
     where
       go : (r : Result (List ℕ)) → c ≡ checked_as (length (lines_of dict)) r
-          → (record { number = c.number; place = c.place } ≡ sorted_as r) × ((list ≡ list_after list n r) × (spare ≡ spare_after spare n r))
-      go (refusal number place) e = (rw e, (refl, refl))
+          → record { answer : record { number = c.number; place = c.place } ≡ sorted_as r; memory : list ≡ list_after list n r; second : spare ≡ spare_after spare n r }
+      go (refusal number place) e = record { answer = rw e; memory = refl; second = refl }
       go (done entries) e = absurd (z (ap (λ x. x.number) e))
 
   pub ready : c.number ≡ 0 → Ready set dict list n (length spare) c.lines
@@ -134,12 +137,15 @@ module _ (set : Charset) (dict list : List ℕ) (n : ℕ) (spare : List ℕ) (c 
           }
 
   pub sorts : (z : c.number ≡ 0) (after second : List ℕ) → after ≡ arranged (entry_before book) (take n list) ++ drop n list → second ≡ replicate n 0 ++ drop n spare
-      → (record { number = 0; place = 0 } ≡ sorted_as (sorted set dict list n spare))
-      × ((after ≡ list_after list n (sorted set dict list n spare)) × (second ≡ spare_after spare n (sorted set dict list n spare)))
+      → record {
+        answer : record { number = 0; place = 0 } ≡ sorted_as (sorted set dict list n spare);
+        memory : after ≡ list_after list n (sorted set dict list n spare);
+        second : second ≡ spare_after spare n (sorted set dict list n spare);
+      }
   unfolding sorted
   sorts z after second f g = go (sorted_in book list n (length spare)) refl k
     where
       go : (r : Result (List ℕ)) → sorted_in book list n (length spare) ≡ r → c ≡ checked_as (length (lines_of dict)) r
-          → (record { number = 0; place = 0 } ≡ sorted_as r) × ((after ≡ list_after list n r) × (second ≡ spare_after spare n r))
+          → record { answer : record { number = 0; place = 0 } ≡ sorted_as r; memory : after ≡ list_after list n r; second : second ≡ spare_after spare n r }
       go (refusal number place) h e = absurd (omega (arith, sorted_counted book list n (length spare) number place h, ap (λ x. x.number) e))
-      go (done entries) h e = (refl, (f ∙ ap (λ x. x ++ drop n list) (sym (was_sorted book list n (length spare) entries h).is), g))
+      go (done entries) h e = record { answer = refl; memory = f ∙ ap (λ x. x ++ drop n list) (sym (was_sorted book list n (length spare) entries h).is); second = g }

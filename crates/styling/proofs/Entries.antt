@@ -103,9 +103,9 @@ module _ (set : Charset) (s : List ℕ) (h : Head) (array codes xs ys : List ℕ
       go (was_read p q k a) = absurd (z (ap (λ k. k.number) k))
 
   pub reading_refused : (o : List ℕ) (r : Reading) → (h.number ≡ 0 → ⊥) → r ≡ record { number = h.number; place = h.place; sign = no_sign }
-      → (r ≡ styled_reading set s) × (o ≡ record_left o (styled_of set s))
+      → record { answer : r ≡ styled_reading set s; memory : o ≡ record_left o (styled_of set s) }
   unfolding reading_of
-  reading_refused o r z e = rw (styled_refused z) (e, refl)
+  reading_refused o r z e = rw (styled_refused z) (record { answer = e; memory = refl })
 
   pub transcribed_refused : (o : List ℕ) (r : Written) → (h.number ≡ 0 → ⊥) → r ≡ record { number = h.number; place = h.place; length = 0 } → Answers o (styled_transcription set s) r o
   unfolding styled_transcription
@@ -146,14 +146,14 @@ module _ (set : Charset) (s : List ℕ) (h : Head) (array codes xs ys : List ℕ
     laid = laid_there k.both.0 (dash_at s) h array codes xs ys k.split.within.prefix k.split.within.symbols k.head k.holds
 
     pub reading_done : (o w : List ℕ) (r : Reading) → r ≡ record { number = 0; place = 0; sign = sign_in set h array codes xs ys } → w ≡ record_in (styling_from rest 0)
-        → (r ≡ styled_reading set s) × (w ≡ record_left o (styled_of set s))
+        → record { answer : r ≡ styled_reading set s; memory : w ≡ record_left o (styled_of set s) }
     unfolding reading_of
     reading_done o w r e q =
         let a = k.holds in
-        rw k.reads (
-          e ∙ (λ i. record { number = 0; place = 0; sign = sign_in set (k.head i) (a.0 i) (a.1.0 i) (a.1.1.0 i) (a.1.1.1 i) }),
-          q ∙ ap record_in rest_from,
-        )
+        rw k.reads record {
+          answer = e ∙ (λ i. record { number = 0; place = 0; sign = sign_in set (k.head i) (a.0 i) (a.1.0 i) (a.1.1.0 i) (a.1.1.1 i) });
+          memory = q ∙ ap record_in rest_from;
+        }
 
     -- TRANSCRIPTION
     abbrev pub there : Meaning
@@ -198,7 +198,7 @@ module _ (set : Charset) (s : List ℕ) (h : Head) (array codes xs ys : List ℕ
 
       module _ (o p : List ℕ) (w : Written) (room : at + (length s - h.place) ≤ length o) (a : Answers o (done (sign_text other there)) w p) where
         sign-wrote : Wrote o p 0 at (sign_text other k.both.0)
-        sign-wrote = rw at-is (wrote_sign o p (sign_text other k.both.0) (omega (arith, at-is)) (a.1 ∙ ap (λ m. output o (done (sign_text other m))) lying.same))
+        sign-wrote = rw at-is (wrote_sign o p (sign_text other k.both.0) (omega (arith, at-is)) (a.memory ∙ ap (λ m. output o (done (sign_text other m))) lying.same))
 
         pub transcribed-done : (q : List ℕ) (n : ℕ) (r : Written) → Wrote p q at n rest → r ≡ record { number = 0; place = 0; length = at + (length s - h.place) } → Answers o (styled_transcription set s) r q
         transcribed-done q n r v e =

@@ -7,8 +7,12 @@
 ghost use Rattle.std.specs.Prelude.{◌≤◌, length};
 
 use charset::Charset;
-use libc::{STDIN_FILENO, STDOUT_FILENO};
 use querygrammar::Edition;
+
+// The file descriptors of standard input and output.
+const STDIN_FILENO: i32 = 0;
+
+const STDOUT_FILENO: i32 = 1;
 
 // The first place of a byte from a place on, or the length.
 fn find(text: &[u8], from: usize, byte: u8) -> usize

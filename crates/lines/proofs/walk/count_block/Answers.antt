@@ -1,4 +1,4 @@
-use Prim.Native.Nat.{◌+◌, ◌-◌}
+use Prim.Native.Nat.{◌+◌}
 use native.Mathlib.Omega.{arith}
 use Rattle.lines.proofs.Counting.{count_start, count_ten, count_other, block_is}
 use Rattle.lines.proofs.walk.count_block.Goals as goal

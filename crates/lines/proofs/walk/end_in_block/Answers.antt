@@ -1,4 +1,4 @@
-use Prim.Native.Nat.{◌+◌, ◌-◌, ◌<◌, min}
+use Prim.Native.Nat.{◌+◌, ◌<◌, min}
 use lib.ListN.{length}
 use mathlib.Core.Path.{◌≡◌, refl}
 use mathlib.Core.Logic.{inl}

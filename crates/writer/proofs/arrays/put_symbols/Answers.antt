@@ -1,4 +1,3 @@
-use Prim.Native.Nat.{◌-◌}
 use native.Mathlib.Omega.{arith}
 use Rattle.grammar.specs.Sign.{ValidSymbol}
 use Rattle.writer.proofs.Writes.{wrote_as}

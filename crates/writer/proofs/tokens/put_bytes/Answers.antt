@@ -1,4 +1,3 @@
-use Prim.Native.Nat.{◌-◌}
 use native.Mathlib.Omega.{arith}
 use Rattle.writer.proofs.Writes.{wrote_none, bytes_room, bytes_more, bytes_all}
 use Rattle.writer.proofs.tokens.put_bytes.Goals as goal

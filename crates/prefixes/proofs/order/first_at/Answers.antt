@@ -1,0 +1,7 @@
+use Rattle.prefixes.proofs.order.first_at.Goals as goal
+
+pub returns-in-Fsw : goal.returns-in-Fsw
+returns-in-Fsw c = rw c.in-Fsw.is c.fsw_first_at.ensures
+
+pub returns-in-Swu : goal.returns-in-Swu
+returns-in-Swu c = rw c.in-Swu.is c.swu_first_at.ensures

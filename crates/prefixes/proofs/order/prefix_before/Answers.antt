@@ -1,0 +1,24 @@
+use native.Mathlib.Omega.{arith}
+use Rattle.prefixes.proofs.Comparing.{symbol_size_most, marker_size_most, sizes, prefix_differ, prefix_none, prefix_rest}
+use Rattle.prefixes.proofs.order.prefix_before.Goals as goal
+
+pub returns-then-a-b : goal.returns-then-a-b
+returns-then-a-b c = prefix_differ _ _ _ _ _ _ c.first_at-a.ensures c.first_at-b.ensures (omega arith) (omega arith) c.if-a-b.true
+
+pub returns-then-a : goal.returns-then-a
+returns-then-a c = prefix_none _ _ _ _ _ _ c.first_at-a.ensures c.first_at-b.ensures c.if-a.true
+
+pub overflow_add-first : goal.overflow_add-first
+overflow_add-first c = omega (arith, c.symbol_size.ensures, c.marker_size.ensures, symbol_size_most c.args.set, marker_size_most c.args.set)
+
+pub overflow_add-i : goal.overflow_add-i
+overflow_add-i c = omega (arith, c.symbol_size.ensures, c.marker_size.ensures, symbol_size_most c.args.set, marker_size_most c.args.set)
+
+pub overflow_add-j : goal.overflow_add-j
+overflow_add-j c = omega (arith, c.symbol_size.ensures, c.marker_size.ensures, symbol_size_most c.args.set, marker_size_most c.args.set)
+
+pub words_before-requires : goal.words_before-requires
+words_before-requires c = omega (arith, c.symbol_size.ensures, c.marker_size.ensures, symbol_size_most c.args.set, marker_size_most c.args.set)
+
+pub returns : goal.returns
+returns c = prefix_rest _ _ _ _ _ _ c.first_at-a.ensures c.first_at-b.ensures _ _ c.if-a-b.false c.if-a.false (sizes c.args.set _ _ c.marker_size.ensures c.symbol_size.ensures) c.words_before.ensures

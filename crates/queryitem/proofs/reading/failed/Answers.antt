@@ -1,0 +1,14 @@
+use Rattle.queryitem.specs.Pieces.{failed_as}
+use Rattle.queryitem.proofs.reading.failed.Goals as goal
+
+pub returns-in-Value : goal.returns-in-Value
+unfolding failed_as
+returns-in-Value c = rw c.in-Value.is
+
+pub returns-in-Wrong : goal.returns-in-Wrong
+unfolding failed_as
+returns-in-Wrong c = rw c.in-Wrong.is
+
+pub returns-in-Short : goal.returns-in-Short
+unfolding failed_as
+returns-in-Short c = rw c.in-Short.is
