@@ -19,19 +19,20 @@ use Rattle.lines.specs.Lines.{lines as lines_of}
 use Rattle.lines.specs.Checked.{line_count, counted_as}
 use Rattle.lines.proofs.Counts.{count_whole, count_refused, count_done}
 use Rattle.narrowing.specs.declared.Narrowed.{Narrowed}
-use Rattle.narrowing.specs.Narrowing.{up_to, distinct, listed, not_narrowed, filled, narrowed_by}
-use Rattle.narrowing.proofs.Calls.{query_refused, dictionary_refused, list-refused, line_refused, call-done}
+use Rattle.narrowing.specs.Narrowing.{up_to, rising, distinct, listed, not_narrowed, filled, narrowed_by}
+use Rattle.narrowing.proofs.Calls.{query_refused, dictionary_refused, list-refused, line_refused, call-done, narrowed_alike}
 use Rattle.format.proofs.Keeping.{keep_length, keep_agree, keep_passes}
 use Rattle.narrowing.proofs.Rising.{listed_room, listed_valid}
 use Rattle.format.proofs.Lists.{all_both}
-use Rattle.narrowing.proofs.Distinct.{distinct_within, all_marked, none_listed, none_in_lines}
+use Rattle.narrowing.proofs.Distinct.{distinct_within, rising_distinct, all_marked, none_listed, none_in_lines}
 use Rattle.list.specs.Bits.{bit_of, Lists, Marks}
 use Rattle.list.proofs.Sets.{inside}
 use Rattle.entries.specs.declared.finding.Found.{Found}
 use Rattle.entries.specs.Entries.{readable, first_wrong}
 use Rattle.entries.specs.Judging.{meets_words}
 use Rattle.entries.specs.Finding.{found_as, found_in, Kept}
-use Rattle.dictionary.specs.Narrowing.{test_of}
+use Rattle.dictionary.specs.Narrowing.{test_of, narrowed, narrowed_sorted}
+use Rattle.dictionary.specs.NarrowingLaws.{NarrowingLaws}
 use Rattle.dictionary.specs.Inner.{narrowed_words}
 use Rattle.dictionary.proofs.Asked.{asked_refused, asked_done}
 
@@ -136,3 +137,14 @@ module _ (valid : ℕ → List ℕ → Bool) {e : Edition} {s : List ℕ} {h : H
       → (r, after) ≡ narrowed_by (test_of set dict (e, s)) (line_count dict) valid (readable set dict) list n
   unfolding narrowed_words
   with_done z r after j = j ∙ ap (λ t. narrowed_by t (line_count dict) valid (readable set dict) list n) (sym (asked_done v set dict z))
+
+-- BOTH FORMS
+pub narrowing_laws : NarrowingLaws
+unfolding narrowed narrowed_sorted
+narrowing_laws =
+    record {
+      alike = λ set dict list n query h.
+          narrowed_alike distinct rising (readable set dict) list n (test_of set dict query) (line_count dict) (λ lines e.
+          let rises : rising lines (take n list) ≡ true = rw (count_whole dict lines e).lines h in
+          rising_distinct lines (take n list) rises ∙ sym rises);
+    }

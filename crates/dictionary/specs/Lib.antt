@@ -1,4 +1,5 @@
 pub mod Narrowing
+pub mod NarrowingLaws
 pub mod Search
 pub mod SearchLaws
 pub mod Inner

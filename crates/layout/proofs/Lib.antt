@@ -1,3 +1,4 @@
 pub mod Copies
 pub mod Laying
 pub mod Finding
+pub mod Laws

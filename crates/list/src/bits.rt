@@ -42,7 +42,8 @@ pub fn add_rising(list: &[u16], n: usize, count: usize, bits: &mut [u8]) -> bool
         if e <= last {
             return false;
         }
-        if count < e {
+        let past = count < e;
+        if past {
             return false;
         }
         add(bits, e);

@@ -11,7 +11,8 @@ use queryitem::words::{FIRST_ROW, PRESENT};
 fn is_inside(lo: u16, hi: u16, code: u16) -> bool
     ensures { result ≡ leb lo code && leb code hi }
 {
-    if code < lo {
+    let below = code < lo;
+    if below {
         return false;
     }
     code <= hi

@@ -61,7 +61,8 @@ impl Amount {
             return 0;
         }
         let left = raised - down;
-        if GREATEST < left {
+        let high = GREATEST < left;
+        if high {
             return 0;
         }
         left as u16

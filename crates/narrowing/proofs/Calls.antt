@@ -1,14 +1,15 @@
 -- `narrowedBy` in each of its cases.
 use Prim.Native.Nat.{ℕ, ◌-◌}
-use mathlib.Core.Path.{◌≡◌}
+use mathlib.Core.Path.{◌≡◌, refl, ap}
 use mathlib.Core.List.{List}
-use mathlib.Core.Bool.{Bool, true, false}
+use mathlib.Core.Bool.{Bool, true, false, ◌&&◌}
 use borrow.Author.Tests.{ne_eqb}
+use lib.Dec.{leb}
 use lib.ListN.{length, take, drop}
 use Rattle.format.specs.Format.{keep}
-use Rattle.token.specs.Result.{Result, refusal, done}
+use Rattle.token.specs.Result.{Result, refusal, done, check}
 use Rattle.token.specs.Refusal.{list_wrong, line_wrong}
-use Rattle.narrowing.specs.Narrowing.{listed, first_bad, kept_by, not_narrowed, answer_of, filled, list_after, narrowed_by}
+use Rattle.narrowing.specs.Narrowing.{listed, first_bad, check_lines, kept_by, not_narrowed, answer_of, filled, list_after, narrowing, narrowed_by}
 
 module _ (valid : ℕ → List ℕ → Bool) (readable : ℕ → Bool) (list : List ℕ) (n : ℕ) where
   pub query_refused : {query : Result (ℕ → Bool)} {number place : ℕ} (count : Result ℕ) → query ≡ refusal number place
@@ -36,3 +37,13 @@ module _ (valid : ℕ → List ℕ → Bool) (readable : ℕ → Bool) (list : L
           → (record { number = 0; place = 0; kept = k; dropped = n - k }, after) ≡ narrowed_by query count valid readable list n
       unfolding narrowed_by kept_by answer_of list_after
       call-done k after h b ek ea = rw (q, d, h, b, ek, ea)
+
+-- tests that agree on the entries of the list give the same call
+pub narrowed_alike : (valid other : ℕ → List ℕ → Bool) (readable : ℕ → Bool) (list : List ℕ) (n : ℕ) (query : Result (ℕ → Bool)) (count : Result ℕ)
+    → ((lines : ℕ) → count ≡ done lines → valid lines (take n list) ≡ other lines (take n list))
+    → narrowed_by query count valid readable list n ≡ narrowed_by query count other readable list n
+unfolding narrowed_by kept_by listed
+narrowed_alike valid other readable list n (refusal number place) count agree = refl
+narrowed_alike valid other readable list n (done test) (refusal number place) agree = refl
+narrowed_alike valid other readable list n (done test) (done lines) agree =
+    ap (λ b. narrowing list n (check (leb n (length list) && b) list_wrong 0 (check_lines readable (take n list) (done (keep test (take n list)))))) (agree lines refl)

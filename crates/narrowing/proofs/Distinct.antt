@@ -4,12 +4,13 @@ use mathlib.Core.Path.{◌≡◌, refl, sym, ap, subst, ◌∙◌}
 use mathlib.Core.List.{List, [], ◌∷◌, ◌++◌}
 use mathlib.Core.Bool.{Bool, true, false, not, ◌&&◌, ◌||◌, true≢false, or-true, and-eq-true_iff}
 use native.Mathlib.Omega.{arith}
-use borrow.Author.Tests.{ltb-true, leb-true, lt-ltb, le-leb, eq-eqb, ne_eqb, eqb-true, eqb-false, not-true}
+use borrow.Author.Tests.{ltb-true, leb-true, leb-false, lt-ltb, le-leb, eq-eqb, ne_eqb, eqb-true, eqb-false, not-true}
 use lib.Dec.{eqb, ltb, leb}
+use lib.ListN.{length}
 use Rattle.format.specs.Format.{choose, All, keep}
 use Rattle.format.proofs.Lists.{all_parts, all_weaker, all_both}
 use Rattle.narrowing.specs.Narrowing.{entries_from, up_to, rising_over, rising, has, distinct, first_bad}
-use Rattle.format.proofs.Keeping.{keep_all, keep_passes}
+use Rattle.format.proofs.Keeping.{keep_all, keep_agree, keep_every, keep_passes}
 use Rattle.narrowing.proofs.Rising.{rising_parts, rising_within, up_to_rising, bad_keep, none_bad}
 
 module _ (count e : ℕ) (entries : List ℕ) where
@@ -88,6 +89,40 @@ distinct_keep test count (e ∷ k) d =
     go : (t : Bool) → 0 < e → e ≤ count → has e k ≡ false → distinct count (keep test k) ≡ true → distinct count (choose t (e ∷ keep test k) (keep test k)) ≡ true
     go true h m n d = distinct_on count e (keep test k) h m (has_not e (keep test k) (keep_all (λ i. i ≡ e → ⊥) test k (not_has e k n))) ∙ d
     go false h m n d = d
+
+-- AT MOST COUNT ENTRIES: of those in 1 to count + 1 at most one is over count
+lower : (count most : ℕ) (k : List ℕ) → distinct most k ≡ true → All (λ e. leb e count ≡ true) k → distinct count k ≡ true
+lower count most [] d a = distinct_end count
+lower count most (e ∷ k) d a =
+    let p = distinct_parts most e k d in
+    distinct_on count e k p.0 (leb-true e count a.0) p.2 ∙ lower count most k p.3 a.1
+
+all_but_one : (count : ℕ) (k : List ℕ) → distinct (suc count) k ≡ true → length k ≤ length (keep (λ e. leb e count) k) + 1
+unfolding keep
+all_but_one count [] d = omega arith
+all_but_one count (e ∷ k) d =
+    let p = distinct_parts (suc count) e k d in
+    go p.1 (distinct_within (suc count) k p.3) (not_has e k p.2) (all_but_one count k p.3) (leb e count) refl
+  where
+    low : List ℕ
+    low = keep (λ i. leb i count) k
+
+    go : e ≤ suc count → All (λ i. (0 < i) × (i ≤ suc count)) k → All (λ i. i ≡ e → ⊥) k → length k ≤ length low + 1
+        → (t : Bool) → leb e count ≡ t → suc (length k) ≤ length (choose t (e ∷ low) low) + 1
+    go m w a h true q = omega arith
+    go m w a h false q =
+        let over = leb-false e count q in
+        let rest : low ≡ k = keep_agree (λ i. leb i count) (λ i. true) k
+        (all_both (λ i. (0 < i) × (i ≤ suc count)) (λ i. i ≡ e → ⊥) (λ i. leb i count ≡ true) (λ i b z. le-leb i count (omega (arith, b.1, z, over))) k w a) ∙ keep_every k in
+        omega (arith, ap length rest)
+
+pub distinct_few : (count : ℕ) (k : List ℕ) → distinct count k ≡ true → length k ≤ count
+distinct_few zero [] d = omega arith
+distinct_few zero (e ∷ k) d = let p = distinct_parts 0 e k d in absurd (omega (arith, p.0, p.1))
+distinct_few (suc count) k d =
+    let low = keep (λ e. leb e count) k in
+    let few = distinct_few count low (lower count (suc count) low (distinct_keep (λ e. leb e count) (suc count) k d) (keep_passes (λ e. leb e count) k)) in
+    omega (arith, few, all_but_one count k d)
 
 -- what rises is such a list
 over : (low last count : ℕ) (k : List ℕ) → low ≤ last → rising_over last count k ≡ true → All (λ i. i ≡ low → ⊥) k

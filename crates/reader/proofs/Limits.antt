@@ -3,17 +3,20 @@ use Prim.Native.Nat.{ℕ, ◌≤◌, ◌<◌}
 use mathlib.Core.List.{List}
 use mathlib.Core.Path.{◌≡◌, refl, sym, ap, ◌∙◌}
 use mathlib.Core.Bool.{Bool, true, false}
+use mathlib.Core.Logic.Iff
+use mathlib.Core.Logic.{◌↔◌}
 use lib.Dec.{leb, lit<}
 use lib.ListN.{length}
 use native.Mathlib.Omega.{arith}
-use borrow.Author.Tests.{leb-true, leb-false, le-leb, lt-ltb, le-ltb}
+use borrow.Author.Tests.{leb-true, leb-false, le-leb, lt-leb, lt-ltb, le-ltb}
 use Rattle.format.specs.Places.{Outcome, fine, refused, ends_short}
 use Rattle.charset.specs.declared.Charset.{Charset}
 use Rattle.grammar.specs.Sign.{Meaning, read_sign}
 use Rattle.token.specs.Refusal.{prefix_long, signbox_long}
 use Rattle.token.specs.Result.{Result, refusal, done, and_then, check, of_outcome}
 use Rattle.token.proofs.Checks.{check_done, and_then_done, Counted, done_counted, check_counted, and_then_counted, outcome_counted}
-use Rattle.token.proofs.Results.{outcome_done}
+use Rattle.token.proofs.Exactly.{Never, done_never, check_never, check_passed, check_stopped}
+use Rattle.token.proofs.Results.{outcome_done, same_done}
 use Rattle.reader.specs.declared.arrays.Head.{Head}
 use Rattle.token.specs.Padded.{padded}
 use Rattle.reader.specs.Signs.{within_limits, sign_of}
@@ -42,6 +45,46 @@ pub read_limited : (set : Charset) (s : List ℕ) (h r : Head) (array codes xs y
 unfolding sign_of
 read_limited set s h r array codes xs ys v e = record { is = rw e (limited_go (length s) (read_sign set s) h array codes xs ys v.is) }
 
+-- THE LIMITS, EXACTLY
+
+module _ (m : Meaning) where
+  abbrev signbox_limit : Result Meaning
+  signbox_limit = check (leb (length m.symbols) 64) signbox_long 0 (done m)
+
+  pub within_inv : (k : Meaning) → within_limits m ≡ done k → (length m.prefix ≤ 32) × ((length m.symbols ≤ 64) × (m ≡ k))
+  within_inv k e =
+      let p = check_done (leb (length m.prefix) 32) prefix_long 0 signbox_limit e in
+      let q = check_done (leb (length m.symbols) 64) signbox_long 0 (done m) p.1 in
+      (leb-true (length m.prefix) 32 p.0, (leb-true (length m.symbols) 64 q.0, same_done q.1))
+
+  pub within_done : length m.prefix ≤ 32 → length m.symbols ≤ 64 → within_limits m ≡ done m
+  within_done p s = rw (le-leb (length m.prefix) 32 p, le-leb (length m.symbols) 64 s)
+
+  pub within_counted : Counted (within_limits m)
+  within_counted =
+      check_counted (leb (length m.prefix) 32) prefix_long 0 signbox_limit (lit< tt)
+      (check_counted (leb (length m.symbols) 64) signbox_long 0 (done m) (lit< tt) (done_counted m))
+
+  signbox_never : (k : ℕ) → (signbox_long ≡ k → ⊥) → Never k signbox_limit
+  signbox_never k h = check_never (leb (length m.symbols) 64) signbox_long k 0 (done m) h (done_never k m)
+
+  -- 3 and 4 are the only numbers that they give
+  pub within_never : (k : ℕ) → (prefix_long ≡ k → ⊥) → (signbox_long ≡ k → ⊥) → Never k (within_limits m)
+  within_never k h₁ h₂ = check_never (leb (length m.prefix) 32) prefix_long k 0 signbox_limit h₁ (signbox_never k h₂)
+
+  pub prefix_exceeds : (p : ℕ) → (within_limits m ≡ refusal prefix_long p) ↔ ((32 < length m.prefix) × (p ≡ 0))
+  prefix_exceeds p =
+      let n = length m.prefix in
+      Iff.trans (check_stopped (leb n 32) prefix_long 0 p signbox_limit (signbox_never prefix_long (λ e. omega arith))) (Iff.and (leb-false n 32, lt-leb n 32) Iff.rfl)
+
+  pub signbox_exceeds : (p : ℕ) → (within_limits m ≡ refusal signbox_long p) ↔ ((length m.prefix ≤ 32) × ((64 < length m.symbols) × (p ≡ 0)))
+  signbox_exceeds p =
+      let n = length m.prefix in
+      let k = length m.symbols in
+      Iff.trans (check_passed (leb n 32) prefix_long signbox_long 0 p signbox_limit (λ e. omega arith))
+      (Iff.and (leb-true n 32, le-leb n 32)
+      (Iff.trans (check_stopped (leb k 64) signbox_long 0 p (done m) (done_never signbox_long m)) (Iff.and (leb-false k 64, lt-leb k 64) Iff.rfl)))
+
 -- a sign that is within the limits is what the text says
 pub record Limited (set : Charset) (s : List ℕ) (m : Meaning) : Type 0 where
   pub says : read_sign set s ≡ fine m
@@ -53,10 +96,8 @@ unfolding sign_of
 sign_limited set s m e =
     let d = and_then_done (of_outcome (length s) (read_sign set s)) within_limits e in
     let k = d.0 in
-    let p = check_done (leb (length k.prefix) 32) prefix_long 0 (check (leb (length k.symbols) 64) signbox_long 0 (done k)) d.1.1 in
-    let q = check_done (leb (length k.symbols) 64) signbox_long 0 (done k) p.1 in
-    let same : k ≡ m = cc q.1 in
-    rw same at (limited-as k (outcome_done (length s) (read_sign set s) k d.1.0) (leb-true (length k.prefix) 32 p.0) (leb-true (length k.symbols) 64 q.0))
+    let w = within_inv k m d.1.1 in
+    rw w.1.1 at (limited-as k (outcome_done (length s) (read_sign set s) k d.1.0) w.0 w.1.0)
   where
     limited-as : (k : Meaning) → read_sign set s ≡ fine k → length k.prefix ≤ 32 → length k.symbols ≤ 64 → Limited set s k
     limited-as k a b c = record { says = a; prefix = b; symbols = c }
@@ -64,16 +105,13 @@ sign_limited set s m e =
 pub limited_sign : (set : Charset) (s : List ℕ) (m : Meaning) → Limited set s m → sign_of set s ≡ done m
 unfolding sign_of
 limited_sign set s m l =
-    ap (λ o. and_then (of_outcome (length s) o) within_limits) l.says
-    ∙ rw (le-leb (length m.prefix) 32 l.prefix, le-leb (length m.symbols) 64 l.symbols)
+    ap (λ o. and_then (of_outcome (length s) o) within_limits) l.says ∙ within_done m l.prefix l.symbols
 
 -- no refusal has the number 0
 pub sign_counted : (set : Charset) (s : List ℕ) → Counted (sign_of set s)
 unfolding sign_of
 sign_counted set s =
-    and_then_counted (of_outcome (length s) (read_sign set s)) within_limits (outcome_counted (length s) (read_sign set s)) λ m.
-    check_counted (leb (length m.prefix) 32) prefix_long 0 (check (leb (length m.symbols) 64) signbox_long 0 (done m)) (lit< tt)
-    (check_counted (leb (length m.symbols) 64) signbox_long 0 (done m) (lit< tt) (done_counted m))
+    and_then_counted (of_outcome (length s) (read_sign set s)) within_limits (outcome_counted (length s) (read_sign set s)) within_counted
 
 -- What is known of a reading into arrays, by its number.
 pub data Known (set : Charset) (s : List ℕ) (h : Head) (array codes xs ys : List ℕ) : Type 0 where

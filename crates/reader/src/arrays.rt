@@ -248,7 +248,8 @@ fn ended(set: Charset, size: usize, h: Head) -> Head
         return h;
     }
     let left = token::reading::left_over(set, size, place);
-    if left == TEXT_WRONG {
+    let follows = left == TEXT_WRONG;
+    if follows {
         return no_head(TEXT_WRONG, place);
     }
     if left == TEXT_SHORT {

@@ -55,7 +55,8 @@ fn search_met<'a>(
     if wrong != 0 {
         return not_searched(LINE_WRONG, wrong);
     }
-    if list.len() < met {
+    let short = list.len() < met;
+    if short {
         return not_searched(ROOM_SHORT, met);
     }
     write_entries(list, &bits, n);

@@ -1,5 +1,6 @@
 pub mod Copies
 pub mod Packed
+pub mod RefusalLaws
 pub mod Readings
 pub mod Eights
 pub mod Stepping

@@ -6,6 +6,7 @@ use Rattle.grammar.specs.Sign.{Spatial, Meaning, Valid, sign_text}
 use Rattle.grammar.proofs.SignLaws.{sign_laws}
 use Rattle.token.specs.Result.{Result, refusal, done}
 use Rattle.token.specs.Padded.{padded}
+use Rattle.token.proofs.Checks.{Counted}
 use Rattle.token.proofs.PaddedLists.{padded_at}
 use Rattle.writer.specs.Arrays.{upto, at, symbol_at, meaning_in}
 use Rattle.writer.proofs.Upto.{upto_is}
@@ -30,13 +31,13 @@ pub sign_reads : (set : Charset) (s : List ℕ) (m : Meaning) → sign_of set s 
 sign_reads set s m e = ((sign_laws set).writes s m (sign_limited set s m e).says).1
 
 -- a text that is not refused means something
-pub read_means : (set : Charset) (text : List ℕ) → (reading_in set text).number ≡ 0 → (m : Meaning) × (sign_of set text ≡ done m)
+pub reading_done : (set : Charset) (r : Result Meaning) → Counted r → (reading_of set r).number ≡ 0 → (m : Meaning) × (r ≡ done m)
 unfolding reading_of
-read_means set text z = go (sign_of set text) refl z
-  where
-    go : (r : Result Meaning) → sign_of set text ≡ r → (reading_of set r).number ≡ 0 → (m : Meaning) × (sign_of set text ≡ done m)
-    go (refusal number place) e z = absurd (let k = sign_counted set text number place e in omega arith)
-    go (done m) e z = (m, e)
+reading_done set (refusal number place) c z = absurd (let k = c number place refl in omega arith)
+reading_done set (done m) c z = (m, refl)
+
+pub read_means : (set : Charset) (text : List ℕ) → (reading_in set text).number ≡ 0 → (m : Meaning) × (sign_of set text ≡ done m)
+read_means set text z = reading_done set (sign_of set text) (sign_counted set text) z
 
 abbrev no_symbol : Spatial
 no_symbol = record { code = 0; x = 0; y = 0 }

@@ -1,4 +1,5 @@
 pub mod Splits
+pub mod RefusalLaws
 pub mod Laws
 pub mod Judging
 pub mod Texts

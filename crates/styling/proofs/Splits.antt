@@ -1,22 +1,22 @@
 -- A styled text that is read, and its two parts.
-use Prim.Native.Nat.{ℕ, ◌≤◌}
+use Prim.Native.Nat.{ℕ}
 use mathlib.Core.Path.{◌≡◌, ap, ◌∙◌}
 use mathlib.Core.List.{List, ◌++◌}
-use lib.Dec.{leb, lit<}
+use lib.Dec.{lit<}
 use lib.ListN.{length, take, drop}
 use lib.Seq.{take-append_seam, drop-append_seam}
-use borrow.Author.Tests.{leb-true, le-leb}
 use Rattle.format.specs.Places.{fine, reading}
 use Rattle.charset.specs.declared.Charset.{Charset}
 use Rattle.charset.specs.Tokens.{tokens}
 use Rattle.grammar.specs.Sign.{Meaning, Valid, sign, sign_text}
 use Rattle.grammar.proofs.SignLaws.{sign_fine}
-use Rattle.token.specs.Refusal.{prefix_long, signbox_long, zoom_outside, colour_long, styles_long}
+use Rattle.token.specs.Refusal.{zoom_outside, colour_long, styles_long}
 use Rattle.token.specs.Result.{done, on_done, check, and_then, of_outcome}
 use Rattle.token.proofs.Checks.{check_done, on_done_done, and_then_done, Counted, done_counted, check_counted, and_then_counted, on_done_counted, outcome_counted}
 use Rattle.token.proofs.Results.{outcome_done, same_done}
 use Rattle.reader.specs.Signs.{within_limits}
-use Rattle.sign.proofs.Packed.{Within}
+use Rattle.reader.proofs.Limits.{within_inv, within_done, within_counted}
+use Rattle.sign.proofs.Packed.{Within, reading_done}
 use Rattle.stylinggrammar.specs.Styling.{Spelling, styling}
 use Rattle.stylinggrammar.specs.Meaning.{zooms_good, names_good, styles_few, meaning}
 use Rattle.stylinggrammar.specs.StylingLaws.{Accepted}
@@ -25,7 +25,7 @@ use Rattle.stylinggrammar.specs.Styled.{dash_at, read_styled}
 use Rattle.stylinggrammar.proofs.Dashes.{dash_of}
 use Rattle.stylinggrammar.proofs.Begun.{body}
 use Rattle.stylinggrammar.proofs.StyledLaws.{styled_laws, sign_plain}
-use Rattle.styling.specs.Reading.{styling_limits, styled_limits, styled_of}
+use Rattle.styling.specs.Reading.{styling_limits, styled_limits, styled_of, styled_reading}
 use Rattle.styling.specs.Writing.{record_read}
 
 -- THE LIMITS OF A STYLING
@@ -74,22 +74,6 @@ string_reads text w s =
     ∙ ap (on_done (λ t. record_of (meaning t))) (limits_done s.spelling s.accepted)
     ∙ ap done s.is
 
--- THE LIMITS OF A SIGN
-
-within_inv : (m k : Meaning) → within_limits m ≡ done k → (length m.prefix ≤ 32) × ((length m.symbols ≤ 64) × (m ≡ k))
-within_inv m k e =
-    let p = check_done (leb (length m.prefix) 32) prefix_long 0 (check (leb (length m.symbols) 64) signbox_long 0 (done m)) e in
-    let q = check_done (leb (length m.symbols) 64) signbox_long 0 (done m) p.1 in
-    (leb-true (length m.prefix) 32 p.0, (leb-true (length m.symbols) 64 q.0, same_done q.1))
-
-within_done : (m : Meaning) → Within m → within_limits m ≡ done m
-within_done m w = rw (le-leb (length m.prefix) 32 w.prefix, le-leb (length m.symbols) 64 w.symbols)
-
-within_counted : (m : Meaning) → Counted (within_limits m)
-within_counted m =
-    check_counted (leb (length m.prefix) 32) prefix_long 0 (check (leb (length m.symbols) 64) signbox_long 0 (done m)) (lit< tt)
-    (check_counted (leb (length m.symbols) 64) signbox_long 0 (done m) (lit< tt) (done_counted m))
-
 -- A STYLED TEXT
 
 pub record Split (set : Charset) (text : List ℕ) (m : Meaning) (t : Spelling) : Type 0 where
@@ -120,7 +104,7 @@ unfolding styled_of
 split_styled set text m t s =
     ap (λ o. and_then (of_outcome (length text) o) styled_limits) (((styled_laws set).fines text m t).1 (s.within.valid, (s.valid, s.is)))
     ∙ ap (λ r. and_then r λ u. on_done (λ k. (k, u)) (within_limits m)) (limits_done t s.accepted)
-    ∙ ap (on_done (λ k. (k, t))) (within_done m s.within)
+    ∙ ap (on_done (λ k. (k, t))) (within_done m s.within.prefix s.within.symbols)
 
 pub styled_counted : (set : Charset) (text : List ℕ) → Counted (styled_of set text)
 unfolding styled_of
@@ -128,6 +112,13 @@ styled_counted set text =
     and_then_counted (of_outcome (length text) (read_styled set text)) styled_limits (outcome_counted (length text) (read_styled set text)) λ p.
     and_then_counted (styling_limits p.1) (λ t. on_done (λ m. (m, t)) (within_limits p.0)) (limits_counted p.1) λ t.
     on_done_counted (λ m. (m, t)) (within_limits p.0) (within_counted p.0)
+
+-- a styled text that is not refused says a sign and a styling
+pub styled_means : (set : Charset) (text : List ℕ) → (styled_reading set text).number ≡ 0 → (p : Meaning × Spelling) × (styled_of set text ≡ done p)
+styled_means set text z =
+    let d = reading_done set (on_done (λ p. p.0) (styled_of set text)) (on_done_counted (λ p. p.0) (styled_of set text) (styled_counted set text)) z in
+    let k = on_done_done (λ p. p.0) (styled_of set text) d.1 in
+    (k.0, k.1.0)
 
 -- where it is split
 module _ (set : Charset) (text : List ℕ) (m : Meaning) (t : Spelling) (s : Split set text m t) where

@@ -1,5 +1,6 @@
 pub mod Reading
 pub mod Transcription
 pub mod Writing
+pub mod RefusalLaws
 pub mod Laws
 pub mod Inner

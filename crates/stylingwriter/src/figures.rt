@@ -48,7 +48,8 @@ fn put_cents(out: &mut [u8], at: usize, n: u16) -> usize
     let last = n % 10;
     let point = put_byte(out, at, b'.');
     let next = put_digit(out, point, n / 10);
-    if last == 0 {
+    let whole = last == 0;
+    if whole {
         return next;
     }
     put_digit(out, next, last)

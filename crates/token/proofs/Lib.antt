@@ -6,5 +6,6 @@ pub mod Atomic
 pub mod Choices
 pub mod Ends
 pub mod Checks
+pub mod Exactly
 pub mod PaddedLists
 pub mod Results

@@ -23,20 +23,20 @@ shape_of-bits-then-e-last c = c.loop-i.invariant.long
 pub returns-then-e-last : goal.returns-then-e-last
 returns-then-e-last c = adding_low c.loop-i.invariant c.loop-i-test.true c.if-e-last.true
 
-pub shape_of-bits-then-count-e : goal.shape_of-bits-then-count-e
-shape_of-bits-then-count-e c = c.loop-i.invariant.long
+pub shape_of-bits-then-past : goal.shape_of-bits-then-past
+shape_of-bits-then-past c = c.loop-i.invariant.long
 
-pub returns-then-count-e : goal.returns-then-count-e
-returns-then-count-e c = adding_high c.loop-i.invariant c.loop-i-test.true c.if-count-e.true
+pub returns-then-past : goal.returns-then-past
+returns-then-past c = adding_high c.loop-i.invariant c.loop-i-test.true c.if-past.true
 
 pub add-requires : goal.add-requires
-add-requires c = (adding-space c.loop-i.invariant c.loop-i-test.true c.if-e-last.false c.if-count-e.false, adding-free c.loop-i.invariant c.loop-i-test.true c.if-e-last.false c.if-count-e.false)
+add-requires c = (adding-space c.loop-i.invariant c.loop-i-test.true c.if-e-last.false c.if-past.false, adding-free c.loop-i.invariant c.loop-i-test.true c.if-e-last.false c.if-past.false)
 
 pub overflow_add-i : goal.overflow_add-i
 overflow_add-i c = omega (arith, c.loop-i.invariant.room)
 
 pub loop-i-preserved : goal.loop-i-preserved
-loop-i-preserved c = rw c.add.ensures (adding-more c.loop-i.invariant c.loop-i-test.true c.if-e-last.false c.if-count-e.false)
+loop-i-preserved c = rw c.add.ensures (adding-more c.loop-i.invariant c.loop-i-test.true c.if-e-last.false c.if-past.false)
 
 pub shape_of-bits : goal.shape_of-bits
 shape_of-bits c = c.loop-i.invariant.long

@@ -11,11 +11,11 @@ find-found-requires c = (c.requires.0, omega (arith, length-replicate {A = ℕ} 
 pub returns-then-wrong-ne0 : goal.returns-then-wrong-ne0
 returns-then-wrong-ne0 c = line_wrong_lem _ _ _ _ _ (first_wrong_lem _ _ _ _ (replicate 8192 255) (all_listed 8192 _ (bits_room _ c.requires.1)) c.find-found.ensures.found) c.if-wrong-ne0.true _ c.not_searched.ensures
 
-pub returns-then-list-met : goal.returns-then-list-met
-returns-then-list-met c = room_short_lem _ _ _ _ _ (first_wrong_lem _ _ _ _ (replicate 8192 255) (all_listed 8192 _ (bits_room _ c.requires.1)) c.find-found.ensures.found) c.if-wrong-ne0.false (met_count _ _ _ _ (replicate 8192 255) (all_listed 8192 _ (bits_room _ c.requires.1)) c.find-found.ensures.found c.if-wrong-ne0.false) c.if-list-met.true _ c.not_searched-then-list-met.ensures
+pub returns-then-short : goal.returns-then-short
+returns-then-short c = room_short_lem _ _ _ _ _ (first_wrong_lem _ _ _ _ (replicate 8192 255) (all_listed 8192 _ (bits_room _ c.requires.1)) c.find-found.ensures.found) c.if-wrong-ne0.false (met_count _ _ _ _ (replicate 8192 255) (all_listed 8192 _ (bits_room _ c.requires.1)) c.find-found.ensures.found c.if-wrong-ne0.false) c.if-short.true _ c.not_searched-then-short.ensures
 
 pub write_entries-requires : goal.write_entries-requires
-write_entries-requires c = (c.requires.1, omega (arith, c.find-found.ensures.kept.long, length-replicate {A = ℕ} 8192 0, bits_room c.args.n c.requires.1), entries-room c.args.set c.args.dict.now _ _ (replicate 8192 255) (all_listed 8192 _ (bits_room _ c.requires.1)) c.find-found.ensures.found c.if-wrong-ne0.false c.find-found.ensures.kept c.args.list.now c.if-list-met.false)
+write_entries-requires c = (c.requires.1, omega (arith, c.find-found.ensures.kept.long, length-replicate {A = ℕ} 8192 0, bits_room c.args.n c.requires.1), entries-room c.args.set c.args.dict.now _ _ (replicate 8192 255) (all_listed 8192 _ (bits_room _ c.requires.1)) c.find-found.ensures.found c.if-wrong-ne0.false c.find-found.ensures.kept c.args.list.now c.if-short.false)
 
 pub returns : goal.returns
-returns c = all_written _ _ _ _ _ (first_wrong_lem _ _ _ _ (replicate 8192 255) (all_listed 8192 _ (bits_room _ c.requires.1)) c.find-found.ensures.found) c.if-wrong-ne0.false (met_count _ _ _ _ (replicate 8192 255) (all_listed 8192 _ (bits_room _ c.requires.1)) c.find-found.ensures.found c.if-wrong-ne0.false) c.if-list-met.false _ (entries-written c.args.set c.args.dict.now _ _ (replicate 8192 255) (all_listed 8192 _ (bits_room _ c.requires.1)) c.find-found.ensures.found c.if-wrong-ne0.false c.find-found.ensures.kept _ _ c.write_entries.ensures)
+returns c = all_written _ _ _ _ _ (first_wrong_lem _ _ _ _ (replicate 8192 255) (all_listed 8192 _ (bits_room _ c.requires.1)) c.find-found.ensures.found) c.if-wrong-ne0.false (met_count _ _ _ _ (replicate 8192 255) (all_listed 8192 _ (bits_room _ c.requires.1)) c.find-found.ensures.found c.if-wrong-ne0.false) c.if-short.false _ (entries-written c.args.set c.args.dict.now _ _ (replicate 8192 255) (all_listed 8192 _ (bits_room _ c.requires.1)) c.find-found.ensures.found c.if-wrong-ne0.false c.find-found.ensures.kept _ _ c.write_entries.ensures)

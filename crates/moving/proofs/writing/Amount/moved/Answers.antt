@@ -8,12 +8,12 @@ returns-then-raised-down c =
     let a = c.args in
     sym (moved_low a.n a.self.up a.self.down c.if-raised-down.true)
 
-pub returns-then-left-gt-GREATEST : goal.returns-then-left-gt-GREATEST
-returns-then-left-gt-GREATEST c =
+pub returns-then-high : goal.returns-then-high
+returns-then-high c =
     let a = c.args in
-    sym (moved_high a.n a.self.up a.self.down (omega arith) c.if-left-gt-GREATEST.true)
+    sym (moved_high a.n a.self.up a.self.down (omega arith) c.if-high.true)
 
 pub returns : goal.returns
 returns c =
     let a = c.args in
-    sym (moved_inside a.n a.self.up a.self.down (omega arith) (omega arith) c.if-left-gt-GREATEST.false)
+    sym (moved_inside a.n a.self.up a.self.down (omega arith) (omega arith) c.if-high.false)

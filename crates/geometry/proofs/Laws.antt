@@ -15,7 +15,8 @@ use Rattle.bounds.proofs.Halves.{half_exact}
 use Rattle.bounds.proofs.Limits.{doubled_small}
 use Rattle.bounds.proofs.Measuring.{measures}
 use Rattle.geometry.specs.Geometry.{bounds_as, bounds_of}
-use Rattle.geometry.specs.GeometryLaws.{Exact, GeometryLaws}
+use Rattle.geometry.specs.Geometry.{Exact}
+use Rattle.geometry.specs.GeometryLaws.{GeometryLaws}
 
 pub bounds_exact : (set : Charset) (text sizes : List ℕ) → All (λ b. b ≤ 255) sizes → Exact (bounds_of set text sizes)
 unfolding bounds_of

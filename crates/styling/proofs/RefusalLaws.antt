@@ -18,7 +18,7 @@ use Rattle.token.specs.Result.{Result, refusal, done, on_done, check, and_then, 
 use Rattle.token.proofs.Exactly.{Never, check_never, check_passed, check_stopped, text_wrong_lem, text_short_lem, said_exactly}
 use Rattle.token.proofs.Results.{on_done_refusal}
 use Rattle.reader.specs.Signs.{within_limits}
-use Rattle.reader.proofs.Limits.{within-never, prefix-exceeds, signbox-exceeds}
+use Rattle.reader.proofs.Limits.{within_never, prefix_exceeds, signbox_exceeds}
 use Rattle.sign.specs.Reading.{packed, reading_of}
 use Rattle.sign.specs.RefusalLaws.{Answers}
 use Rattle.sign.proofs.RefusalLaws.{answers_exactly}
@@ -31,7 +31,7 @@ use Rattle.stylinggrammar.specs.StyledLaws.{Dashed}
 use Rattle.stylinggrammar.proofs.StyledLaws.{styled_laws}
 use Rattle.styling.specs.Reading.{styled_limits, styled_of, styled_reading, record_left}
 use Rattle.styling.specs.RefusalLaws.{SaysStyled, ByUnits, StyledWrongAt, StyledStopsEarly, StyledRefusalLaws}
-use Rattle.styling.proofs.Splits.{styled_split, split_styled, styled-means}
+use Rattle.styling.proofs.Splits.{styled_split, split_styled, styled_means}
 
 -- THE LIMITS, one test after the other
 
@@ -68,7 +68,7 @@ module _ (m : Meaning) (t : Spelling) where
       ∙ ap (check (names_good t) colour_long 0) (then_check (styles_few t) styles_long 0 (done t) next))
 
   sign_never : (k : ℕ) → Other k → Never k sign_limits
-  sign_never k h q e = within-never m k h.0 h.1 q (on_done_refusal (λ k. (k, t)) (within_limits m) k q e)
+  sign_never k h q e = within_never m k h.0 h.1 q (on_done_refusal (λ k. (k, t)) (within_limits m) k q e)
 
   styles_never : (k : ℕ) → Other k → (styles_long ≡ k → ⊥) → Never k from_styles
   styles_never k h n = check_never (styles_few t) styles_long k 0 sign_limits n (sign_never k h)
@@ -178,7 +178,7 @@ module _ (set : Charset) (text : List ℕ) where
       ↔ ((m : Meaning) × (t : Spelling) × SaysStyled set text m t × Accepted t × (length m.prefix ≤ 32) × (length m.symbols ≤ 64))
   accepted = (
     λ z.
-        let d = styled-means set text z in
+        let d = styled_means set text z in
         let s = styled_split set text d.0 d.1 in
         (d.0.0, d.0.1, (s.within.valid, (s.valid, s.is)), s.accepted, s.within.prefix, s.within.symbols),
     λ x. ap (λ r. r.number) (reads x.0 x.1 x.2 x.3 x.4 x.5).0,
@@ -232,12 +232,12 @@ styled_refusal_laws set = record {
   prefix_long_lem = λ text p.
       Iff.trans
       (over set text prefix_long p (λ m t. Accepted t × ((32 < length m.prefix) × (p ≡ 0))) (omega arith)
-      (λ m t. sign-exceeds m t p prefix_long ((32 < length m.prefix) × (p ≡ 0)) (omega arith) (prefix-exceeds m p)))
+      (λ m t. sign-exceeds m t p prefix_long ((32 < length m.prefix) × (p ≡ 0)) (omega arith) (prefix_exceeds m p)))
       (λ x. (x.0, x.1, x.2, x.3.0, x.3.1.0, x.3.1.1), λ x. (x.0, x.1, x.2, (x.3, (x.4, x.5))));
   signbox_long_lem = λ text p.
       Iff.trans
       (over set text signbox_long p (λ m t. Accepted t × ((length m.prefix ≤ 32) × ((64 < length m.symbols) × (p ≡ 0)))) (omega arith)
-      (λ m t. sign-exceeds m t p signbox_long ((length m.prefix ≤ 32) × ((64 < length m.symbols) × (p ≡ 0))) (omega arith) (signbox-exceeds m p)))
+      (λ m t. sign-exceeds m t p signbox_long ((length m.prefix ≤ 32) × ((64 < length m.symbols) × (p ≡ 0))) (omega arith) (signbox_exceeds m p)))
       (λ x. (x.0, x.1, x.2, x.3.0, x.3.1.0, x.3.1.1.0, x.3.1.1.1), λ x. (x.0, x.1, x.2, (x.3, (x.4, (x.5, x.6)))));
   accepted = accepted set;
   reads = reads set;

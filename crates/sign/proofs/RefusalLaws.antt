@@ -10,7 +10,7 @@ use Rattle.token.specs.Refusal.{text_wrong, text_short, prefix_long, signbox_lon
 use Rattle.token.specs.Result.{Result, refusal, done, check, and_then, of_outcome}
 use Rattle.token.proofs.Exactly.{text_wrong_lem, text_short_lem, said_exactly}
 use Rattle.reader.specs.Signs.{within_limits, sign_of}
-use Rattle.reader.proofs.Limits.{sign_limited, limited_sign, within-never, prefix-exceeds, signbox-exceeds}
+use Rattle.reader.proofs.Limits.{sign_limited, limited_sign, within_never, prefix_exceeds, signbox_exceeds}
 use Rattle.sign.specs.Reading.{packed, reading_of, reading_in}
 use Rattle.sign.specs.RefusalLaws.{Answers, Says, WrongAt, StopsEarly, RefusalLaws}
 use Rattle.sign.proofs.Packed.{read_means}
@@ -36,14 +36,14 @@ module _ (set : Charset) (text : List ℕ) where
   unfolding sign_of
   wrong p =
       Iff.trans (answers_exactly set (sign_of set text) text_wrong p (omega arith))
-      (Iff.trans (text_wrong_lem (length text) (read_sign set text) within_limits (λ m. within-never m text_wrong (λ e. omega arith) (λ e. omega arith)) p)
+      (Iff.trans (text_wrong_lem (length text) (read_sign set text) within_limits (λ m. within_never m text_wrong (λ e. omega arith) (λ e. omega arith)) p)
       (wrong_places set text p))
 
   short : (p : ℕ) → Answers (reading_in set text) text_short p ↔ (StopsEarly set text × (p ≡ length text))
   unfolding sign_of
   short p =
       Iff.trans (answers_exactly set (sign_of set text) text_short p (omega arith))
-      (Iff.trans (text_short_lem (length text) (read_sign set text) within_limits (λ m. within-never m text_short (λ e. omega arith) (λ e. omega arith)) p)
+      (Iff.trans (text_short_lem (length text) (read_sign set text) within_limits (λ m. within_never m text_short (λ e. omega arith) (λ e. omega arith)) p)
       (Iff.and (short_places set text) Iff.rfl))
 
   -- 3 AND 4
@@ -93,10 +93,10 @@ refusal_laws set = record {
   wrong = wrong set;
   short = short set;
   prefix_long_lem = λ text p.
-      Iff.trans (over set text prefix_long p (λ m. (32 < length m.prefix) × (p ≡ 0)) (omega arith) (λ m. prefix-exceeds m p))
+      Iff.trans (over set text prefix_long p (λ m. (32 < length m.prefix) × (p ≡ 0)) (omega arith) (λ m. prefix_exceeds m p))
       (λ x. (x.0, x.1.0, x.1.1.0, x.1.1.1), λ x. (x.0, (x.1, (x.2, x.3))));
   signbox_long_lem = λ text p.
-      Iff.trans (over set text signbox_long p (λ m. (length m.prefix ≤ 32) × ((64 < length m.symbols) × (p ≡ 0))) (omega arith) (λ m. signbox-exceeds m p))
+      Iff.trans (over set text signbox_long p (λ m. (length m.prefix ≤ 32) × ((64 < length m.symbols) × (p ≡ 0))) (omega arith) (λ m. signbox_exceeds m p))
       (λ x. (x.0, x.1.0, x.1.1.0, x.1.1.1.0, x.1.1.1.1), λ x. (x.0, (x.1, (x.2, (x.3, x.4)))));
   accepted = accepted set;
   reads = reads set;
