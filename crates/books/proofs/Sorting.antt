@@ -3,14 +3,14 @@ use Prim.Native.Nat.{ℕ, ◌≤◌, ◌<◌}
 use mathlib.Core.Path.{◌≡◌, refl, sym, ap, ◌∙◌}
 use mathlib.Core.List.{List, [], ◌∷◌, ◌++◌}
 use mathlib.Core.Bool.{Bool, true, false, not, ◌&&◌, ◌||◌, and-false, or_assoc, or_comm}
-use borrow.Author.Tests.{le-leb, leb-true, eqb-true, eqb-false, eq-eqb, ne_eqb}
+use borrow.Author.Tests.{le-leb, lt-leb, leb-true, eqb-true, eqb-false, eq-eqb, ne_eqb}
 use lib.Dec.{eqb, ltb, leb, lit<}
 use lib.ListN.{length, take, drop}
 use lib.Seq.{take-append_seam, drop-append_seam}
 use Rattle.format.specs.Format.{choose}
 use Rattle.format.proofs.Lists.{all_weaker}
 use Rattle.token.specs.Refusal.{dictionary_unended, too_many, list_wrong, line_wrong, room_short}
-use Rattle.token.specs.Result.{done, check}
+use Rattle.token.specs.Result.{refusal, done, check}
 use Rattle.token.proofs.Checks.{Counted, refusal_done, done_counted, check_done, check_counted, and_then_done, and_then_counted}
 use Rattle.lines.specs.Checked.{check_few}
 use Rattle.lines.specs.Lines.{is_few}
@@ -89,9 +89,15 @@ module _ (before : ℕ → ℕ → Bool) where
 
 -- THE SORT of a good list refuses nothing but too little room
 module _ (b : Book) (k after : List ℕ) (g : GoodBy distinct b k) where
-  pub good_sorted : (room : ℕ) → length k ≤ room → sorted_in b (k ++ after) (length k) room ≡ done (arranged (entry_before b) k)
+  by_room : (room : ℕ) → sorted_in b (k ++ after) (length k) room ≡ check (leb (length k) room) room_short (length k) (done (arranged (entry_before b) k))
   unfolding sorted_in
-  good_sorted room h = rw (g.fine, is_listed distinct b k after g, take-append_seam k after, none_bad (readable_in b) k g.reads, le-leb (length k) room h)
+  by_room room = rw (g.fine, is_listed distinct b k after g, take-append_seam k after, none_bad (readable_in b) k g.reads)
+
+  pub good_sorted : (room : ℕ) → length k ≤ room → sorted_in b (k ++ after) (length k) room ≡ done (arranged (entry_before b) k)
+  good_sorted room h = rw (le-leb (length k) room h) at (by_room room)
+
+  pub good_short : (room : ℕ) → room < length k → sorted_in b (k ++ after) (length k) room ≡ refusal room_short (length k)
+  good_short room h = rw (lt-leb (length k) room h) at (by_room room)
 
 -- a good list stays one when it is arranged
 pub arranged_good : (b : Book) (k : List ℕ) → GoodBy distinct b k → GoodBy distinct b (arranged (entry_before b) k)
@@ -177,6 +183,12 @@ module _ (room : ℕ) (g : Fill Book) (m : FillLaws book_of other_text (GoodBy d
       let k = g.start b in
       rw (m.memory b list f.0, m.count b list f.0)
       (good_sorted b k (drop (length k) list) (m.good b list f.0) room (rw (← m.count b list f.0) f.1))
+
+  pub fill_short : (b : Book) (list : List ℕ) → g.Fills b list → room < g.count b list
+      → sorted_in b (g.memory b list) (g.count b list) room ≡ refusal room_short (g.count b list)
+  fill_short b list f h =
+      let k = g.start b in
+      rw (m.memory b list f, m.count b list f) (good_short b k (drop (length k) list) (m.good b list f) room (rw (← m.count b list f) h))
 
   pub sorted_fill_lem : FillLaws book_of other_text (GoodBy distinct) (sorted_fill room g)
   sorted_fill_lem =

@@ -1,62 +1,34 @@
--- A query that was accepted: its items are valid and few enough, so that its words have room.
-use Prim.Native.Nat.{ℕ, ◌≤◌}
-use mathlib.Core.Path.{◌≡◌}
+-- A query that was accepted: its items are valid and within the limits, so that its words have room; and what is within the limits is
+-- accepted.
+use Prim.Native.Nat.{ℕ}
+use mathlib.Core.Path.{◌≡◌, refl, ap, ◌∙◌}
 use mathlib.Core.List.{List, map}
-use mathlib.Core.Bool.{Bool, true, false, ◌&&◌, and-eq-true_iff}
+use mathlib.Core.Bool.{Bool, true, false}
 use mathlib.Core.Logic.{inl, inr}
 use mathlib.Core.Option.{Option, none, some}
-use lib.Dec.{leb}
 use lib.ListN.{length}
-use borrow.Author.Tests.{leb-true}
-use Rattle.format.specs.Format.{Format, All, Any, every}
+use Rattle.format.specs.Format.{Format, All, Any}
 use Rattle.format.specs.Places.{fine}
-use Rattle.format.proofs.Lists.{all_map, all_weaker, every_all}
+use Rattle.format.proofs.Lists.{all_map, all_weaker}
 use Rattle.charset.specs.declared.Charset.TheVariants.{Fsw, Swu}
 use Rattle.grammar.specs.Sign.{Number}
-use Rattle.token.specs.Refusal.{prefix_long, signbox_long, alternatives_long, range_reversed}
-use Rattle.token.specs.Result.{done, of_outcome}
-use Rattle.token.proofs.Checks.{refusal_done, check_done, and_then_done}
-use Rattle.token.proofs.Results.{same_done, outcome_done}
+use Rattle.token.specs.Result.{done, and_then, of_outcome}
+use Rattle.token.proofs.Checks.{and_then_done}
+use Rattle.token.proofs.Results.{outcome_done}
 use Rattle.querygrammar.specs.declared.Edition.{Edition}
 use Rattle.querygrammar.specs.declared.Edition.TheVariants.{First, Second}
 use Rattle.querygrammar.specs.Spelling.{Item, Spelling, spelling}
-use Rattle.querygrammar.specs.Query.{others, list, ListText, SoughtText, HeadText, coordinate, prefix_list, signbox_list, head, query, Query, alternatives_of, sought_of, prefix_of, meaning, lists_of, sought_lists, ValidItem, ValidSought, ValidQuery}
+use Rattle.querygrammar.specs.Query.{others, list, ListText, SoughtText, HeadText, coordinate, prefix_list, signbox_list, head, query, Query, alternatives_of, sought_of, prefix_of, lists_of, ValidItem, ValidSought, ValidQuery}
 use Rattle.querygrammar.specs.QueryLaws.{Text, read_query}
 use Rattle.querygrammar.proofs.QueryLaws.{query_laws}
 use Rattle.queryitem.specs.Pieces.{item_of}
-use Rattle.queryitem.proofs.Rows.{Few, words_room}
+use Rattle.queryitem.proofs.Rows.{words_room}
 use Rattle.querypart.specs.Spots.{first_reversed}
-use Rattle.querypart.specs.Inner.{few}
 use Rattle.querypart.proofs.Valid.{item_valid}
-use Rattle.query.specs.Reading.{spots_of, in_order_of, limited, query_of}
-use Rattle.query.specs.ReadingLaws.{Accepted}
-
--- WHAT PASSED ALL THE LIMITS
-
-pub record Passed (p q : Query) : Type 0 where
-  pub same : p ≡ q
-  pub prefix_most : length (lists_of p.prefix) ≤ 32
-  pub items_most : length p.items ≤ 32
-  pub prefix_few : every few (lists_of p.prefix) ≡ true
-  pub items_few : every few (sought_lists p) ≡ true
-
-order_done : (o : Option ℕ) (p q : Query) → in_order_of o p ≡ done q → p ≡ q
-order_done none p q e = same_done e
-order_done (some at) p q e = refusal_done range_reversed at e
-
-pub limited_passed : (p q : Query) (o : Option ℕ) → limited p o ≡ done q → Passed p q
-limited_passed p q o e =
-    let a = check_done (leb (length (lists_of p.prefix)) 32) prefix_long 0 _ e in
-    let b = check_done (leb (length p.items) 32) signbox_long 0 _ a.1 in
-    let c = check_done (every few (lists_of p.prefix) && every few (sought_lists p)) alternatives_long 0 _ b.1 in
-    let f = (and-eq-true_iff (every few (lists_of p.prefix)) (every few (sought_lists p))).0 c.0 in
-    record {
-      same = order_done o p q c.1;
-      prefix_most = leb-true _ 32 a.0;
-      items_most = leb-true _ 32 b.0;
-      prefix_few = f.0;
-      items_few = f.1;
-    }
+use Rattle.query.specs.Reading.{spots_of, limited, query_of}
+use Rattle.query.specs.ReadingLaws.{meant, InLimits, Accepted}
+use Rattle.query.proofs.Reversed.{none_reversed}
+use Rattle.query.proofs.Limits.{limited_passed, passed_limited}
 
 -- VALID ITEMS
 
@@ -102,7 +74,7 @@ module _ (e : Edition) where
   sought_valid (l, none) ok = (list_holds e Valid (item_valid e) true l ok.0, tt)
   sought_valid (l, some p) ok = (list_holds e Valid (item_valid e) true l ok.0, point_valid e p ok.1)
 
-  query_valid : (t : Text e) → (query (spelling e)).Valid t → ValidQuery (meaning (spelling e).means t)
+  query_valid : (t : Text e) → (query (spelling e)).Valid t → ValidQuery (meant e t)
   query_valid t ok = record {
     prefix = prefix_holds e Valid (item_valid e) t.0 ok.0;
     items = all_mapped (signbox_list (spelling e)).Valid ValidSought (sought_of (spelling e).means) sought_valid t.1.0 ok.1.0;
@@ -110,15 +82,13 @@ module _ (e : Edition) where
 
 -- ALL OF IT
 
-few_all : (l : List (List Item)) → every few l ≡ true → Few l
-few_all l e = all_weaker (λ a. few a ≡ true) (λ a. length a ≤ 8) (λ a k. leb-true (length a) 8 k) l (every_all few l e)
-
 -- the text of a query that was accepted
 pub record Read (e : Edition) (text : List ℕ) (q : Query) : Type 0 where
   pub says : Text e
   pub is : read_query e text ≡ fine says
   pub valid : (query (spelling e)).Valid says
-  pub passed : Passed (meaning (spelling e).means says) q
+  pub same : meant e says ≡ q
+  pub limits : InLimits (meant e says)
 
 pub query_read : (e : Edition) (text : List ℕ) (q : Query) → query_of e text ≡ done q → Read e text q
 unfolding query_of
@@ -126,25 +96,44 @@ query_read e text q z =
     let d = and_then_done (of_outcome (length text) (read_query e text)) _ z in
     let t = d.0 in
     let is = outcome_done (length text) (read_query e text) t d.1.0 in
+    let p = limited_passed (meant e t) q (first_reversed (spots_of (spelling e) t)) d.1.1 in
     record {
       says = t;
       is = is;
       valid = ((query_laws e).writes text t is).0;
-      passed = limited_passed (meaning (spelling e).means t) q (first_reversed (spots_of (spelling e) t)) d.1.1;
+      same = p.same;
+      limits = record {
+        prefix_fits = p.prefix_fits;
+        signbox_fits = p.signbox_fits;
+        alternatives_fit = p.alternatives_fit;
+        none_reversed = (none_reversed e t).0 p.in_order;
+      };
     }
 
 pub query_accepted : (e : Edition) (text : List ℕ) (q : Query) → query_of e text ≡ done q → Accepted q
 query_accepted e text q z =
     let k = query_read e text q z in
-    let m = meaning (spelling e).means k.says in
-    let p = k.passed in
-    let a = few_all (lists_of m.prefix) p.prefix_few in
-    let b = few_all (sought_lists m) p.items_few in
-    rw (← p.same)
+    let l = k.limits in
+    rw (← k.same)
     (record {
       valid = query_valid e k.says k.valid;
-      prefix_most = p.prefix_most;
-      items_most = p.items_most;
-      alternatives_most = (a, b);
-      room = words_room m p.prefix_most p.items_most a b;
+      prefix_most = l.prefix_fits;
+      items_most = l.signbox_fits;
+      alternatives_most = l.alternatives_fit;
+      limits = l;
+      room = words_room (meant e k.says) l.prefix_fits l.signbox_fits l.alternatives_fit.0 l.alternatives_fit.1;
+    })
+
+pub query_accepts : (e : Edition) (t : Text e) → (query (spelling e)).Valid t → InLimits (meant e t) → query_of e ((query (spelling e)).write t) ≡ done (meant e t)
+unfolding query_of
+query_accepts e t ok l =
+    let text = (query (spelling e)).write t in
+    ap (λ o. and_then (of_outcome (length text) o) λ t. limited (meant e t) (first_reversed (spots_of (spelling e) t))) ((query_laws e).reads t ok)
+    ∙ passed_limited (meant e t) (meant e t) (first_reversed (spots_of (spelling e) t))
+    (record {
+      same = refl;
+      prefix_fits = l.prefix_fits;
+      signbox_fits = l.signbox_fits;
+      alternatives_fit = l.alternatives_fit;
+      in_order = (none_reversed e t).1 l.none_reversed;
     })

@@ -2,27 +2,25 @@
 use Prim.Native.Nat.{ℕ, ◌+◌, ◌*◌, ◌≤◌, ◌<◌}
 use mathlib.Core.List.{List}
 use mathlib.Core.Path.{◌≡◌, refl, sym, ap, ◌∙◌}
-use mathlib.Core.Bool.{◌&&◌}
 use mathlib.Core.Option.{Option, none, some}
-use lib.Dec.{leb, lit<}
+use lib.Dec.{lit<}
 use lib.ListN.{length}
 use native.Mathlib.Omega.{arith}
-use Rattle.format.specs.Format.{every}
 use Rattle.token.specs.Refusal.{prefix_long, signbox_long, alternatives_long, range_reversed}
 use Rattle.token.specs.Result.{Result, refusal, done, of_outcome}
-use Rattle.token.proofs.Checks.{Counted, done_counted, refusal_counted, check_counted, and_then_counted, outcome_counted}
+use Rattle.token.proofs.Checks.{Counted, done_counted, refusal_counted, and_then_counted, outcome_counted}
 use Rattle.token.specs.Padded.{padded, zeros}
 use Rattle.querygrammar.specs.declared.Edition.{Edition}
 use Rattle.querygrammar.specs.Spelling.{spelling}
-use Rattle.querygrammar.specs.Query.{Query, meaning, lists_of, sought_lists}
+use Rattle.querygrammar.specs.Query.{Query, meaning}
 use Rattle.querygrammar.specs.QueryLaws.{read_query}
 use Rattle.queryitem.specs.Words.{spare, word_count, words_of}
 use Rattle.queryitem.proofs.TextSizes.{text_size}
 use Rattle.querypart.specs.Spots.{first_reversed}
-use Rattle.querypart.specs.Inner.{few}
 use Rattle.query.specs.declared.words.Head.{Head}
 use Rattle.query.specs.Reading.{spots_of, in_order_of, limited, query_of, reading_of}
 use Rattle.query.specs.Inner.{head_of, ReadInto}
+use Rattle.query.proofs.Limits.{limited_case}
 use Rattle.query.proofs.Accepted.{query_read, query_accepted}
 
 -- no refusal has the number 0
@@ -32,9 +30,7 @@ order_counted (some at) q = refusal_counted range_reversed at (lit< tt)
 
 limited_counted : (q : Query) (o : Option ℕ) → Counted (limited q o)
 limited_counted q o =
-    check_counted (leb (length (lists_of q.prefix)) 32) prefix_long 0 _ (lit< tt)
-    (check_counted (leb (length q.items) 32) signbox_long 0 _ (lit< tt)
-    (check_counted (every few (lists_of q.prefix) && every few (sought_lists q)) alternatives_long 0 _ (lit< tt) (order_counted o q)))
+    limited_case q o Counted (refusal_counted prefix_long 0 (lit< tt)) (refusal_counted signbox_long 0 (lit< tt)) (refusal_counted alternatives_long 0 (lit< tt)) (order_counted o q)
 
 pub query_counted : (e : Edition) (s : List ℕ) → Counted (query_of e s)
 unfolding query_of
@@ -52,7 +48,7 @@ pub all_fit : (e : Edition) (s : List ℕ) → Fits e s word_count
 all_fit e s q z = (query_accepted e s q z).room
 
 pub short_fit : (e : Edition) (s : List ℕ) (n : ℕ) → 8 + 3 * length s + 2 * spare ≤ 2 * n → Fits e s n
-short_fit e s n h q z = let k = query_read e s q z in rw (← k.passed.same) (omega (arith, h, text_size e s k.says k.is))
+short_fit e s n h q z = let k = query_read e s q z in rw (← k.same) (omega (arith, h, text_size e s k.says k.is))
 
 module _ (e : Edition) (s : List ℕ) (n : ℕ) (fits : Fits e s n) (h : Head) (words : List ℕ) (v : ReadInto e s n h words) where
   pub data Known : Type 0 where

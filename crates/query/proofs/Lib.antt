@@ -1,3 +1,6 @@
+pub mod Spots
+pub mod Reversed
+pub mod Limits
 pub mod Accepted
 pub mod Putting
 pub mod Tails
@@ -7,4 +10,5 @@ pub mod Texts
 pub mod Prefixes
 pub mod Answers
 pub mod ReadingLaws
+pub mod RefusalLaws
 pub mod Editions

@@ -58,11 +58,11 @@ boxed_null (Second set) = refl
 pub signbox_without_null : (e : Edition) (text : List ℕ) (q : Query) → query_of e text ≡ done q → NoNull (sought_lists q)
 signbox_without_null e text q z =
     let k = query_read e text q z in
-    rw (← k.passed.same)
+    rw (← k.same)
     (no_null_lem e true (boxed_null e) (sought_lists (meaning (spelling e).means k.says)) (signbox_holds e (Allowed e) (item_allowed e) k.says.1.0 k.valid.1.0))
 
 pub first_without_null : FirstWithoutNull
 first_without_null text q z =
     let k = query_read First text q z in
-    rw (← k.passed.same)
+    rw (← k.same)
     (no_null_lem First false refl (lists_of (meaning (spelling First).means k.says).prefix) (prefix_holds First (Allowed First) (item_allowed First) k.says.0 k.valid.0))

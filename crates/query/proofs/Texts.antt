@@ -19,7 +19,7 @@ use Rattle.token.proofs.Checks.{refusal_done}
 use Rattle.token.specs.Padded.{padded}
 use Rattle.querygrammar.specs.declared.Edition.{Edition}
 use Rattle.querygrammar.specs.Spelling.{Item, spelling}
-use Rattle.querygrammar.specs.Query.{Query, ListText, SoughtText, HeadText, TailText, head, tail, query, alternatives_of, sought_of, meaning, lists_of, sought_lists}
+use Rattle.querygrammar.specs.Query.{Query, ListText, SoughtText, HeadText, TailText, head, tail, query, alternatives_of, sought_of, lists_of, sought_lists}
 use Rattle.querygrammar.specs.QueryLaws.{Text, read_query}
 use Rattle.querygrammar.proofs.Items.{lawful}
 use Rattle.querygrammar.proofs.Query.{optional_head_lawful, query_lawful}
@@ -31,8 +31,9 @@ use Rattle.querypart.proofs.Spots.{Inside, first_both, first_inside, spots_insid
 use Rattle.querypart.proofs.Rows.{item_sorted}
 use Rattle.query.specs.declared.words.Head.{Head}
 use Rattle.query.specs.Reading.{head_lists, head_spots, spots_of, limited, query_of}
+use Rattle.query.specs.ReadingLaws.{meant}
 use Rattle.query.specs.Inner.{head_of, limits, TailIn, Asks, Leads, PrefixIn, ReadInto}
-use Rattle.query.proofs.Accepted.{limited_passed}
+use Rattle.query.proofs.Limits.{few_tells, limited_passed}
 use Rattle.query.proofs.Putting.{query_put, limits_same}
 
 -- WHAT THE LOOPS COUNT IS WHAT THE QUERY MEANS
@@ -107,9 +108,6 @@ module _ (e : Edition) (s : List ℕ) where
   abbrev pub says : Result (Text e)
   says = of_outcome (length s) (read_query e s)
 
-  abbrev meant : Text e → Query
-  meant t = meaning (spelling e).means t
-
   pub query_read : read_query e s ≡ ended 1 (length s) (locate sp s 0)
   query_read = reading_at 1 sp (query_lawful (spelling e) (lawful e)) s
 
@@ -123,15 +121,15 @@ module _ (e : Edition) (s : List ℕ) where
   pub text_cut : (room : ℕ) (h : Head) (w : List ℕ) → locate sp s 0 ≡ short_here → h ≡ record { number = text_short; place = length s } → ReadInto e s room h w
   text_cut room h w x = text_refused room text_short (length s) h w (ap (of_outcome (length s)) (query_read ∙ ap (ended 1 (length s)) x))
 
-  text_fine : (room : ℕ) (t : Text e) (h : Head) (w : List ℕ) → read_query e s ≡ fine t → h ≡ head_of (limited (meant t) (first_reversed (spots_of (spelling e) t)))
-      → (every few (lists_of (meant t).prefix) ≡ true → h.number ≡ 0 → length (words_of (meant t)) + spare ≤ room → w ≡ padded room (words_of (meant t))) → ReadInto e s room h w
+  text_fine : (room : ℕ) (t : Text e) (h : Head) (w : List ℕ) → read_query e s ≡ fine t → h ≡ head_of (limited (meant e t) (first_reversed (spots_of (spelling e) t)))
+      → (every few (lists_of (meant e t).prefix) ≡ true → h.number ≡ 0 → length (words_of (meant e t)) + spare ≤ room → w ≡ padded room (words_of (meant e t))) → ReadInto e s room h w
   unfolding query_of
   text_fine room t h w x q put = record {
     is = q ∙ rw x refl;
     holds = λ k y m.
-        let l : limited (meant t) (first_reversed (spots_of (spelling e) t)) ≡ done k = sym (rw x refl) ∙ y in
-        let p = limited_passed (meant t) k (first_reversed (spots_of (spelling e) t)) l in
-        put p.prefix_few (ap (λ h. h.number) (q ∙ ap head_of l)) (rw p.same m) ∙ ap (λ k. padded room (words_of k)) p.same;
+        let l : limited (meant e t) (first_reversed (spots_of (spelling e) t)) ≡ done k = sym (rw x refl) ∙ y in
+        let p = limited_passed (meant e t) k (first_reversed (spots_of (spelling e) t)) l in
+        put ((few_tells (lists_of (meant e t).prefix)).1 p.alternatives_fit.0) (ap (λ h. h.number) (q ∙ ap head_of l)) (rw p.same m) ∙ ap (λ k. padded room (words_of k)) p.same;
   }
 
   module _ (asks : Asks e s) where
@@ -151,7 +149,7 @@ module _ (e : Edition) (s : List ℕ) where
       tail-go : (u : Outcome (TailText (spelling e).Says)) → ended 1 (length s) (locate ending s c.place) ≡ u → ReadInto e s room r p
       unfolding on_fine
       tail-go (fine t) x =
-          let q = meant (h, t) in
+          let q = meant e (h, t) in
           let n : length t.0 ≡ length q.items = sym (length-map t.0 (sought_of (spelling e).means)) in
           let full : Bool = c.crowded || not (all_few (item e true) t.0) in
           let is : r ≡ head_of (limits c.count (length t.0) full (or_earlier c.reversed (first_of (tails e h t c.place)))) = v.is ∙ rw x refl in

@@ -15,12 +15,42 @@ use Rattle.queryitem.specs.Words.{spare, word_count, words_of}
 use Rattle.querypart.specs.Spots.{Spot, reversed}
 use Rattle.query.specs.Reading.{spots_of, query_of, reading_of}
 
--- a query that was accepted: its items are valid and few enough, so that its words have room
+-- the query that a text means
+abbrev pub meant : (e : Edition) → Text e → Query
+meant e = meaning (spelling e).means
+
+-- THE LIMITS
+
+-- P holds of the alternatives of each item, in the prefix and in the signbox
+abbrev pub EachItem : (List Item → Type 0) → Query → Type 0
+EachItem P q = All P (lists_of q.prefix) × All P (sought_lists q)
+
+-- at most 32 prefix items; at most 32 signbox items; at most eight alternatives in each; no range whose end is below its start
+abbrev pub PrefixFits : Query → Type 0
+PrefixFits q = length (lists_of q.prefix) ≤ 32
+
+abbrev pub SignboxFits : Query → Type 0
+SignboxFits q = length q.items ≤ 32
+
+abbrev pub AlternativesFit : Query → Type 0
+AlternativesFit = EachItem (λ l. length l ≤ 8)
+
+abbrev pub NoneReversed : Query → Type 0
+NoneReversed = EachItem (All (λ item. reversed item ≡ false))
+
+pub record InLimits (q : Query) : Type 0 where
+  pub prefix_fits : PrefixFits q
+  pub signbox_fits : SignboxFits q
+  pub alternatives_fit : AlternativesFit q
+  pub none_reversed : NoneReversed q
+
+-- a query that was accepted: its items are valid and within the limits, so that its words have room
 pub record Accepted (q : Query) : Type 0 where
   pub valid : ValidQuery q
   pub prefix_most : length (lists_of q.prefix) ≤ 32
   pub items_most : length q.items ≤ 32
   pub alternatives_most : All (λ l. length l ≤ 8) (lists_of q.prefix) × All (λ l. length l ≤ 8) (sought_lists q)
+  pub limits : InLimits q
   pub room : length (words_of q) + spare ≤ word_count
 
 -- no item is null
@@ -60,6 +90,8 @@ pub record ReadingLaws (e : Edition) : Type 0 where
   -- no refusal has the number 0
   pub counted : (text : List ℕ) (number place : ℕ) → query_of e text ≡ refusal number place → number ≡ 0 → ⊥
   pub accepted : (text : List ℕ) (q : Query) → query_of e text ≡ done q → Accepted q
+  -- and what is within the limits is accepted: a well-formed text is read as the query that it means
+  pub accepts : (t : Text e) → (query (spelling e)).Valid t → InLimits (meant e t) → query_of e ((query (spelling e)).write t) ≡ done (meant e t)
   -- null is not sought in the signbox
   pub signbox_null : (text : List ℕ) (q : Query) → query_of e text ≡ done q → NoNull (sought_lists q)
   -- the spots of a text that is well-formed are all its items in order, and each is written at its offset

@@ -1,15 +1,17 @@
 -- Demand 3 for runs that keep the order, as an instance of the claim about any form of call and anything that fills the list.
-use Prim.Native.Nat.{ℕ, ◌+◌}
+use Prim.Native.Nat.{ℕ, ◌+◌, ◌≤◌, ◌<◌}
 use mathlib.Core.Path.{◌≡◌, refl, sym, ap, ◌∙◌}
 use mathlib.Core.List.{List, map}
 use mathlib.Core.Option.{Option, none, some}
 use mathlib.Core.Bool.{Bool}
+use mathlib.Core.Logic.{◌↔◌}
 use lib.ListN.{length, take, drop}
 use lib.Seq.{take-append_seam}
 use Rattle.format.specs.Format.{every, keep}
 use Rattle.format.proofs.Lists.{every_true}
 use Rattle.charset.specs.declared.Charset.{Charset}
-use Rattle.token.specs.Result.{in_room, output}
+use Rattle.token.specs.Refusal.{room_short}
+use Rattle.token.specs.Result.{refusal, in_room, output}
 use Rattle.sign.specs.Transcription.{other_set}
 use Rattle.query.specs.Reading.{Asked, query_asked}
 use Rattle.query.proofs.Answers.{query_counted}
@@ -28,9 +30,9 @@ use Rattle.books.specs.Fills.{found_in, met_in, sorted_fill}
 use Rattle.books.specs.Sorting.{entry_before, sorted_in, list_after}
 use Rattle.books.proofs.Forms.{form_laws}
 use Rattle.books.proofs.Rewriting.{same_book}
-use Rattle.books.proofs.Sorting.{entry_order, was_sorted, distinct_fill, sorted_fill_lem}
+use Rattle.books.proofs.Sorting.{entry_order, was_sorted, distinct_fill, fill_sorted, fill_short, sorted_fill_lem}
 use Rattle.searching.specs.Searching.{searched_as}
-use Rattle.sorting.specs.Sorting.{sorted}
+use Rattle.sorting.specs.Sorting.{sorted, sorted_as}
 use Rattle.sorting.proofs.Laws.{accepted}
 use Rattle.dictionary.specs.Search.{found, searched}
 use Rattle.dictionary.specs.Narrowing.{test_of, narrowed_sorted}
@@ -73,6 +75,19 @@ module _ (set : Charset) (dict list : List ℕ) (first : Asked) where
   fills (some spare) s =
       let a = accepted set dict (output list (found set dict first)) (written_by set dict list first) spare s.1 in
       (s.0, (was_sorted b (output list (found set dict first)) (written_by set dict list first) (length spare) a.0 a.1).space)
+
+  -- whether the sort after a search is accepted
+  module _ (s : Searches set dict list first) (spare : List ℕ) where
+    sorts : ((sorted_as (sorted_from set dict list first spare)).number ≡ 0) ↔ (written_by set dict list first ≤ length spare)
+    unfolding fill searched found sorted
+    sorts = (
+      λ z. (fills (some spare) (s, z)).1,
+      λ h. ap (λ r. (sorted_as r).number) (fill_sorted (length spare) (search_fill first) (distinct_fill (search_fill first) (search_fill_lem first)) b list (s, h)),
+    )
+
+    unsorted : length spare < written_by set dict list first → sorted_from set dict list first spare ≡ refusal room_short (written_by set dict list first)
+    unfolding searched found sorted
+    unsorted h = fill_short (length spare) (search_fill first) (distinct_fill (search_fill first) (search_fill_lem first)) b list s h
 
   searches : (spare : Option (List ℕ)) → Starts set dict list first spare → Searches set dict list first
   searches none s = s
@@ -157,6 +172,8 @@ module _ (set : Charset) (dict list : List ℕ) (first : Asked) (s : Searches se
 pub sorted_runs : SortedRuns
 sorted_runs =
     record {
+      sorts = sorts;
+      unsorted = unsorted;
       stood = λ set dict list first spare s queries. stood set dict list first spare s queries;
       apart = λ set dict list first spare s queries.
           rw (← left_is set dict list first spare queries) ((claim first spare).good (book_of (set, dict)) list (fills set dict list first spare s) queries).passes;

@@ -1,11 +1,12 @@
 -- Demand 3 for runs of the form of narrowing that keeps the order (document 02, Q-12), on the list that a search filled, and on the one
 -- that the sort has rearranged after it. `narrow_sorted` cites `narrowedSorted`, and `sort` cites `sorted`, `sortedAs` and `listAfter`.
-use Rattle.std.specs.Prelude.{ℕ, ◌+◌, ◌≡◌, true, length, take, drop}
+use Rattle.std.specs.Prelude.{ℕ, ◌+◌, ◌≤◌, ◌<◌, ◌≡◌, true, ◌↔◌, length, take, drop}
 use mathlib.Core.List.{List, ◌∷◌, map, Perm}
 use Rattle.std.proofs.Math.Option.{Option, none, some}
 use Rattle.format.specs.Format.{keep}
 use Rattle.charset.specs.declared.Charset.{Charset}
-use Rattle.token.specs.Result.{Result, output}
+use Rattle.token.specs.Refusal.{room_short}
+use Rattle.token.specs.Result.{Result, refusal, output}
 use Rattle.sign.specs.Transcription.{other_set}
 use Rattle.query.specs.Reading.{Asked}
 use Rattle.lines.specs.Lines.{lines, line_of}
@@ -47,9 +48,15 @@ sorted_run set dict list first spare queries = run (narrowed_sorted set dict) qu
 abbrev pub remaining : Charset → List ℕ → Asked → Option (List ℕ) → List Asked → List ℕ
 remaining set dict first spare queries = standing set dict spare (meeting set dict (first ∷ queries))
 
--- For every start that is accepted, and all queries in order:
 pub record SortedRuns : Type 0 where
-  -- they are those of the start that meet each accepted query, in its order
+  -- after an accepted search the sort is accepted exactly if the second list has a place for each entry that was written
+  pub sorts : (set : Charset) (dict list : List ℕ) (first : Asked) → Searches set dict list first → (spare : List ℕ)
+      → ((sorted_as (sorted_from set dict list first spare)).number ≡ 0) ↔ (written_by set dict list first ≤ length spare)
+  -- and otherwise refused as 6 with their number
+  pub unsorted : (set : Charset) (dict list : List ℕ) (first : Asked) → Searches set dict list first → (spare : List ℕ)
+      → length spare < written_by set dict list first → sorted_from set dict list first spare ≡ refusal room_short (written_by set dict list first)
+  -- For every start that is accepted, and all queries in order: the entries left are those of the start that meet each accepted query, in
+  -- its order
   pub stood : (set : Charset) (dict list : List ℕ) (first : Asked) (spare : Option (List ℕ)) → Starts set dict list first spare → (queries : List Asked)
       → remaining set dict first spare queries
       ≡ keep (λ e. meets_each set (keep is_accepted queries) (line_of dict e)) (take (written_by set dict list first) (start_list set dict list first spare))

@@ -27,7 +27,7 @@ use Rattle.query.specs.RefusalLaws.{Answers, Says, WrongAt, RefusalLaws}
 use Rattle.query.proofs.Spots.{spots_stand}
 use Rattle.query.proofs.Reversed.{first_reversed_lem}
 use Rattle.query.proofs.Limits.{limited_case, limited_never, limited_3, limited_4, limited_22, limited_5}
-use Rattle.query.proofs.Accepted.{query_read, query-accepts}
+use Rattle.query.proofs.Accepted.{query_read, query_accepts}
 use Rattle.query.proofs.Answers.{query_counted}
 
 -- WHAT A RESULT ANSWERS
@@ -120,7 +120,7 @@ module _ (e : Edition) (text : List ℕ) where
 
   accepted : (p : ℕ) → Answers e text 0 p ↔ ((t : Text e) × Says e text t × InLimits (meant e t) × (p ≡ 0))
   unfolding reading_of
-  accepted p = (λ x. go (query_of e text) refl x, λ x. let z = ap (query_of e) x.1.1 ∙ query-accepts e x.0 x.1.0 x.2 in rw (z, x.3) (refl, refl))
+  accepted p = (λ x. go (query_of e text) refl x, λ x. let z = ap (query_of e) x.1.1 ∙ query_accepts e x.0 x.1.0 x.2 in rw (z, x.3) (refl, refl))
     where
       go : (r : Result Query) → query_of e text ≡ r → ((reading_of r).number ≡ 0) × ((reading_of r).place ≡ p) → (t : Text e) × Says e text t × InLimits (meant e t) × (p ≡ 0)
       go (refusal n q) z x = absurd (omega (arith, query_counted e text n q z, x.0))
