@@ -32,7 +32,8 @@ pub fn fetch_refusal(first: &[u8], second: &[u8], number: usize) -> Refusal
     let seconds = count_lines(second);
     let early = firsts.number;
     let late = seconds.number;
-    if early == DICTIONARY_UNENDED {
+    let unended = early == DICTIONARY_UNENDED;
+    if unended {
         return refusal_of(early);
     }
     // 12 of the second comes before 14 of the first; two of 14 are alike

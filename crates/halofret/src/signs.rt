@@ -32,7 +32,8 @@ pub extern "C" fn halofret_read(
     let number = h.number;
     let place = h.place;
     *answer = [number as u64, place as u64];
-    if number == DONE {
+    let read = number == DONE;
+    if read {
         put_sign(sign, set, h, &prefix, &codes, &xs, &ys);
     }
 }

@@ -37,7 +37,8 @@ fn limited_into(
     requires { 4 ≤ length words.old }
     ensures { LimitedInto kind before count variance crowded reversed words.old result words.new }
 {
-    if MOST_ITEMS < before {
+    let long = MOST_ITEMS < before;
+    if long {
         return answer(PREFIX_LONG, 0);
     }
     if MOST_ITEMS < count {

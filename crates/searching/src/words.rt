@@ -80,7 +80,8 @@ pub fn search_by<'a>(
     let counted = count_lines(dict);
     let number = counted.number;
     let n = counted.lines;
-    if number != DONE {
+    let refused = number != DONE;
+    if refused {
         return not_searched(number, 0);
     }
     if asks_nothing(words) {
