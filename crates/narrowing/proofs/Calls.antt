@@ -1,4 +1,4 @@
--- `narrowedBy` in each of its cases.
+-- `narrowed_by` in each of its cases.
 use Prim.Native.Nat.{ℕ, ◌-◌}
 use mathlib.Core.Path.{◌≡◌, refl, ap}
 use mathlib.Core.List.{List}

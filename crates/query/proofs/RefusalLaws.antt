@@ -94,19 +94,19 @@ module _ (e : Edition) (text : List ℕ) where
       (Iff.trans (text_short_lem (length text) (read_query e text) tests (λ t. limited_never (meant e t) (first t) text_short (λ e. omega arith) (λ e. omega arith) (λ e. omega arith) (λ e. omega arith)) p)
       (Iff.and (short_exactly e text) Iff.rfl))
 
-  prefix_long_lem : (p : ℕ) → Answers e text prefix_long p ↔ ((t : Text e) × Says e text t × (PrefixFits (meant e t) → ⊥) × (p ≡ 0))
-  prefix_long_lem p =
+  refuses_prefix : (p : ℕ) → Answers e text prefix_long p ↔ ((t : Text e) × Says e text t × (PrefixFits (meant e t) → ⊥) × (p ≡ 0))
+  refuses_prefix p =
       let k = tested prefix_long p (lit< tt) (lit< tt) (λ t s. limited_3 (meant e t) (first t) p) in
       (λ a. (let x = k.0 a in (x.0, x.1.0, x.1.1.0, x.1.1.1)), λ x. k.1 (x.0, (x.1, (x.2, x.3))))
 
-  signbox_long_lem : (p : ℕ) → Answers e text signbox_long p ↔ ((t : Text e) × Says e text t × PrefixFits (meant e t) × (SignboxFits (meant e t) → ⊥) × (p ≡ 0))
-  signbox_long_lem p =
+  refuses_signbox : (p : ℕ) → Answers e text signbox_long p ↔ ((t : Text e) × Says e text t × PrefixFits (meant e t) × (SignboxFits (meant e t) → ⊥) × (p ≡ 0))
+  refuses_signbox p =
       let k = tested signbox_long p (lit< tt) (lit< tt) (λ t s. limited_4 (meant e t) (first t) p) in
       (λ a. (let x = k.0 a in (x.0, x.1.0, x.1.1.0, x.1.1.1.0, x.1.1.1.1)), λ x. k.1 (x.0, (x.1, (x.2, (x.3, x.4)))))
 
-  alternatives_long_lem : (p : ℕ)
+  refuses_alternatives : (p : ℕ)
       → Answers e text alternatives_long p ↔ ((t : Text e) × Says e text t × PrefixFits (meant e t) × SignboxFits (meant e t) × (AlternativesFit (meant e t) → ⊥) × (p ≡ 0))
-  alternatives_long_lem p =
+  refuses_alternatives p =
       let k = tested alternatives_long p (lit< tt) (lit< tt) (λ t s. limited_22 (meant e t) (first t) p) in
       (λ a. (let x = k.0 a in (x.0, x.1.0, x.1.1.0, x.1.1.1.0, x.1.1.1.1.0, x.1.1.1.1.1)), λ x. k.1 (x.0, (x.1, (x.2, (x.3, (x.4, x.5))))))
 
@@ -139,9 +139,9 @@ pub refusal_laws : (e : Edition) → RefusalLaws e
 refusal_laws e = record {
   wrong = wrong e;
   short = short e;
-  prefix_long_lem = prefix_long_lem e;
-  signbox_long_lem = signbox_long_lem e;
-  alternatives_long_lem = alternatives_long_lem e;
+  refuses_prefix = refuses_prefix e;
+  refuses_signbox = refuses_signbox e;
+  refuses_alternatives = refuses_alternatives e;
   reversed = range_reversed_lem e;
   accepted = accepted e;
   numbers = numbers e;

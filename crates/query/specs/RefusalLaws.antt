@@ -30,10 +30,10 @@ pub record RefusalLaws (e : Edition) : Type 0 where
   pub wrong : (text : List ℕ) (p : ℕ) → Answers e text text_wrong p ↔ WrongAt e text p
   pub short : (text : List ℕ) (p : ℕ) → Answers e text text_short p ↔ (Unfinished (query (spelling e)) text × (p ≡ length text))
   -- in a well-formed text, the first limit that is not met
-  pub prefix_long_lem : (text : List ℕ) (p : ℕ) → Answers e text prefix_long p ↔ ((t : Text e) × Says e text t × (PrefixFits (meant e t) → ⊥) × (p ≡ 0))
-  pub signbox_long_lem : (text : List ℕ) (p : ℕ)
+  pub refuses_prefix : (text : List ℕ) (p : ℕ) → Answers e text prefix_long p ↔ ((t : Text e) × Says e text t × (PrefixFits (meant e t) → ⊥) × (p ≡ 0))
+  pub refuses_signbox : (text : List ℕ) (p : ℕ)
       → Answers e text signbox_long p ↔ ((t : Text e) × Says e text t × PrefixFits (meant e t) × (SignboxFits (meant e t) → ⊥) × (p ≡ 0))
-  pub alternatives_long_lem : (text : List ℕ) (p : ℕ)
+  pub refuses_alternatives : (text : List ℕ) (p : ℕ)
       → Answers e text alternatives_long p ↔ ((t : Text e) × Says e text t × PrefixFits (meant e t) × SignboxFits (meant e t) × (AlternativesFit (meant e t) → ⊥) × (p ≡ 0))
   -- then the first reversed range, at its R
   pub reversed : (text : List ℕ) (p : ℕ)

@@ -1,6 +1,6 @@
 -- Demand 3 (document 01, "The dictionary and its list"; document 02, Q-10): one claim about every run of narrowing calls on the list
 -- that a search filled. It is about the definitions that the contracts cite: `search` cites `searched`, `found` and `output`,
--- `narrow` cites `narrowed`, `query::read` cites `queryOf` and `reading_of`, and `verdict::verdict` cites `verdictIn`.
+-- `narrow` cites `narrowed`, `query::read` cites `query_of` and `reading_of`, and `verdict::verdict` cites `verdict_in`.
 use Rattle.std.specs.Prelude.{ℕ, ◌+◌, ◌≤◌, ◌≡◌, Bool, true, ◌&&◌, ◌↔◌, length, drop}
 use mathlib.Core.List.{List, [], ◌∷◌, map, Perm}
 use Rattle.format.specs.Format.{keep}

@@ -1,5 +1,5 @@
 -- Demand 3 for runs of the form of narrowing that keeps the order (document 02, Q-12), on the list that a search filled, and on the one
--- that the sort has rearranged after it. `narrow_sorted` cites `narrowedSorted`, and `sort` cites `sorted`, `sortedAs` and `listAfter`.
+-- that the sort has rearranged after it. `narrow_sorted` cites `narrowed_sorted`, and `sort` cites `sorted`, `sorted_as` and `list_after`.
 use Rattle.std.specs.Prelude.{ℕ, ◌+◌, ◌≤◌, ◌<◌, ◌≡◌, true, ◌↔◌, length, take, drop}
 use mathlib.Core.List.{List, ◌∷◌, map, Perm}
 use Rattle.std.proofs.Math.Option.{Option, none, some}

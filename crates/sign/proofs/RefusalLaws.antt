@@ -92,10 +92,10 @@ pub refusal_laws : (set : Charset) → RefusalLaws set
 refusal_laws set = record {
   wrong = wrong set;
   short = short set;
-  prefix_long_lem = λ text p.
+  refuses_prefix = λ text p.
       Iff.trans (over set text prefix_long p (λ m. (32 < length m.prefix) × (p ≡ 0)) (omega arith) (λ m. prefix_exceeds m p))
       (λ x. (x.0, x.1.0, x.1.1.0, x.1.1.1), λ x. (x.0, (x.1, (x.2, x.3))));
-  signbox_long_lem = λ text p.
+  refuses_signbox = λ text p.
       Iff.trans (over set text signbox_long p (λ m. (length m.prefix ≤ 32) × ((64 < length m.symbols) × (p ≡ 0))) (omega arith) (λ m. signbox_exceeds m p))
       (λ x. (x.0, x.1.0, x.1.1.0, x.1.1.1.0, x.1.1.1.1), λ x. (x.0, (x.1, (x.2, (x.3, x.4)))));
   accepted = accepted set;

@@ -33,8 +33,8 @@ pub record RefusalLaws (set : Charset) : Type 0 where
   pub wrong : (text : List ℕ) (p : ℕ) → Answers (reading_in set text) text_wrong p ↔ WrongAt set text p
   pub short : (text : List ℕ) (p : ℕ) → Answers (reading_in set text) text_short p ↔ (StopsEarly set text × (p ≡ length text))
   -- 3 and 4, of a text that is well-formed
-  pub prefix_long_lem : (text : List ℕ) (p : ℕ) → Answers (reading_in set text) prefix_long p ↔ ((m : Meaning) × Says set text m × (32 < length m.prefix) × (p ≡ 0))
-  pub signbox_long_lem : (text : List ℕ) (p : ℕ)
+  pub refuses_prefix : (text : List ℕ) (p : ℕ) → Answers (reading_in set text) prefix_long p ↔ ((m : Meaning) × Says set text m × (32 < length m.prefix) × (p ≡ 0))
+  pub refuses_signbox : (text : List ℕ) (p : ℕ)
       → Answers (reading_in set text) signbox_long p ↔ ((m : Meaning) × Says set text m × (length m.prefix ≤ 32) × (64 < length m.symbols) × (p ≡ 0))
   -- done exactly where the text is a sign within the limits, and the answer is then that sign
   pub accepted : (text : List ℕ) → ((reading_in set text).number ≡ 0) ↔ ((m : Meaning) × Says set text m × (length m.prefix ≤ 32) × (length m.symbols ≤ 64))

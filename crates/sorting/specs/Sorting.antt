@@ -1,4 +1,4 @@
--- Sorting (document 02, Q-12): what a call comes to and how it is answered. Both lists after it are `listAfter` and `spareAfter`.
+-- Sorting (document 02, Q-12): what a call comes to and how it is answered. Both lists after it are `list_after` and `spare_after`.
 use Rattle.std.specs.Prelude.{ℕ, List, length}
 use Rattle.charset.specs.declared.Charset.{Charset}
 use Rattle.token.specs.Result.{Result, refusal, done}

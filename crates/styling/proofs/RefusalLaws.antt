@@ -220,21 +220,21 @@ pub styled_refusal_laws : (set : Charset) → StyledRefusalLaws set
 styled_refusal_laws set = record {
   wrong = wrong set;
   short = short set;
-  zoom_outside_lem = λ text p.
+  refuses_zoom = λ text p.
       Iff.trans (over set text zoom_outside p (λ m t. (zooms_good t ≡ false) × (p ≡ 0)) (omega arith) (λ m t. zooms-exceed m t p))
       (λ x. (x.0, x.1, x.2, x.3.0, x.3.1), λ x. (x.0, x.1, x.2, (x.3, x.4)));
-  colour_long_lem = λ text p.
+  refuses_colour = λ text p.
       Iff.trans (over set text colour_long p (λ m t. (zooms_good t ≡ true) × ((names_good t ≡ false) × (p ≡ 0))) (omega arith) (λ m t. names-exceed m t p))
       (λ x. (x.0, x.1, x.2, x.3.0, x.3.1.0, x.3.1.1), λ x. (x.0, x.1, x.2, (x.3, (x.4, x.5))));
-  styles_long_lem = λ text p.
+  refuses_styles = λ text p.
       Iff.trans (over set text styles_long p (λ m t. (zooms_good t ≡ true) × ((names_good t ≡ true) × ((styles_few t ≡ false) × (p ≡ 0)))) (omega arith) (λ m t. styles-exceed m t p))
       (λ x. (x.0, x.1, x.2, x.3.0, x.3.1.0, x.3.1.1.0, x.3.1.1.1), λ x. (x.0, x.1, x.2, (x.3, (x.4, (x.5, x.6)))));
-  prefix_long_lem = λ text p.
+  refuses_prefix = λ text p.
       Iff.trans
       (over set text prefix_long p (λ m t. Accepted t × ((32 < length m.prefix) × (p ≡ 0))) (omega arith)
       (λ m t. sign-exceeds m t p prefix_long ((32 < length m.prefix) × (p ≡ 0)) (omega arith) (prefix_exceeds m p)))
       (λ x. (x.0, x.1, x.2, x.3.0, x.3.1.0, x.3.1.1), λ x. (x.0, x.1, x.2, (x.3, (x.4, x.5))));
-  signbox_long_lem = λ text p.
+  refuses_signbox = λ text p.
       Iff.trans
       (over set text signbox_long p (λ m t. Accepted t × ((length m.prefix ≤ 32) × ((64 < length m.symbols) × (p ≡ 0)))) (omega arith)
       (λ m t. sign-exceeds m t p signbox_long ((length m.prefix ≤ 32) × ((64 < length m.symbols) × (p ≡ 0))) (omega arith) (signbox_exceeds m p)))

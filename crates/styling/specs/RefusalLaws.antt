@@ -41,17 +41,17 @@ pub record StyledRefusalLaws (set : Charset) : Type 0 where
   pub wrong : (text : List ℕ) (p : ℕ) → Answers (styled_reading set text) text_wrong p ↔ StyledWrongAt set text p
   pub short : (text : List ℕ) (p : ℕ) → Answers (styled_reading set text) text_short p ↔ (StyledStopsEarly set text × (p ≡ length text))
   -- 17, 18, 19, 3 and 4, of a text that is well-formed: each where what is refused before it is not the case
-  pub zoom_outside_lem : (text : List ℕ) (p : ℕ)
+  pub refuses_zoom : (text : List ℕ) (p : ℕ)
       → Answers (styled_reading set text) zoom_outside p ↔ ((m : Meaning) × (t : Spelling) × SaysStyled set text m t × (zooms_good t ≡ false) × (p ≡ 0))
-  pub colour_long_lem : (text : List ℕ) (p : ℕ)
+  pub refuses_colour : (text : List ℕ) (p : ℕ)
       → Answers (styled_reading set text) colour_long p
       ↔ ((m : Meaning) × (t : Spelling) × SaysStyled set text m t × (zooms_good t ≡ true) × (names_good t ≡ false) × (p ≡ 0))
-  pub styles_long_lem : (text : List ℕ) (p : ℕ)
+  pub refuses_styles : (text : List ℕ) (p : ℕ)
       → Answers (styled_reading set text) styles_long p
       ↔ ((m : Meaning) × (t : Spelling) × SaysStyled set text m t × (zooms_good t ≡ true) × (names_good t ≡ true) × (styles_few t ≡ false) × (p ≡ 0))
-  pub prefix_long_lem : (text : List ℕ) (p : ℕ)
+  pub refuses_prefix : (text : List ℕ) (p : ℕ)
       → Answers (styled_reading set text) prefix_long p ↔ ((m : Meaning) × (t : Spelling) × SaysStyled set text m t × Accepted t × (32 < length m.prefix) × (p ≡ 0))
-  pub signbox_long_lem : (text : List ℕ) (p : ℕ)
+  pub refuses_signbox : (text : List ℕ) (p : ℕ)
       → Answers (styled_reading set text) signbox_long p
       ↔ ((m : Meaning) × (t : Spelling) × SaysStyled set text m t × Accepted t × (length m.prefix ≤ 32) × (64 < length m.symbols) × (p ≡ 0))
   -- done exactly where all is within the limits: the answer is then the sign, and the record that of the styling, whatever was there before
