@@ -18,7 +18,7 @@ use Rattle.sign.specs.Transcription.{other_set, transcription}
 use Rattle.sign.specs.OffsetLaws.{ReadAlike}
 use Rattle.sign.proofs.OffsetLaws.{one_meaning, meant_alike}
 use Rattle.sign.proofs.Transcriptions.{transcription_laws}
-use Rattle.lines.specs.Lines.{lines, ended, first_line, line_of, bytes_of}
+use Rattle.lines.specs.Lines.{lines, first_line, line_of, bytes_of}
 use Rattle.lines.specs.LineLaws.{Plain}
 use Rattle.lines.proofs.Laws.{line_laws}
 use Rattle.narrowing.specs.Narrowing.{entries_from}

@@ -4,8 +4,7 @@ use Rattle.std.specs.Prelude.{ℕ, ◌≡◌, List, Bool, true}
 use Rattle.format.specs.Format.{All}
 use Rattle.grammar.specs.Sign.{Meaning}
 use Rattle.token.specs.Result.{Result, done, on_done}
-use Rattle.narrowing.specs.declared.Narrowed.{Narrowed}
-use Rattle.narrowing.specs.Narrowing.{narrowed_by}
+use Rattle.narrowing.specs.Narrowing.{Narrowed, narrowed_by}
 use Rattle.narrowing.specs.Form.{Form}
 use Rattle.books.specs.Book.{Book, count_in, readable_in}
 

@@ -5,6 +5,7 @@ use mathlib.Core.Bool.{Bool, true, false, ◌||◌}
 use mathlib.Core.List.{List, [], ◌∷◌, ◌++◌, append-nil, map, map-append}
 use native.Mathlib.Numerals.{add-one}
 use Rattle.format.specs.Format.{choose, keep}
+use Rattle.format.proofs.Keeping.{keep_more}
 use Rattle.grammar.specs.Sign.{Spatial}
 use Rattle.writer.specs.Arrays.{upto}
 use Rattle.bounds.specs.declared.groups.Box.{Box}
@@ -14,15 +15,6 @@ use Rattle.bounds.specs.Inner.{grown_at, with_symbol}
 pub upto_more : {A : Type 0} (g : ℕ → A) (i : ℕ) → upto g (i + 1) ≡ upto g i ++ (g i ∷ [])
 unfolding upto
 upto_more g i = rw add-one
-
-keep_append : {A : Type 0} (p : A → Bool) (l m : List A) → keep p (l ++ m) ≡ keep p l ++ keep p m
-unfolding keep
-keep_append p [] m = refl
-keep_append p (a ∷ l) m = rw (keep_append p l m) (go (p a))
-  where
-    go : (t : Bool) → choose t (a ∷ (keep p l ++ keep p m)) (keep p l ++ keep p m) ≡ choose t (a ∷ keep p l) (keep p l) ++ keep p m
-    go true = refl
-    go false = refl
 
 grown_more : (a : Box) (l : List Box) (b : Box) → grown_all a (l ++ (b ∷ [])) ≡ grown (grown_all a l) b
 unfolding grown_all
@@ -43,7 +35,7 @@ in_more : (picks : ℕ → Bool) (sizes : List ℕ) (l : List Spatial) (s : Spat
 unfolding keep
 in_more picks sizes l s =
     let kept = keep (λ t. picks t.code) l in
-    ap (λ m. group_of (map (symbol_box sizes) m)) (keep_append (λ t. picks t.code) l (s ∷ [])) ∙ go kept (picks s.code)
+    ap (λ m. group_of (map (symbol_box sizes) m)) (keep_more (λ t. picks t.code) l s) ∙ go kept (picks s.code)
   where
     go : (kept : List Spatial) (t : Bool)
         → group_of (map (symbol_box sizes) (kept ++ choose t (s ∷ []) [])) ≡ choose t (taken (group_of (map (symbol_box sizes) kept)) (symbol_box sizes s)) (group_of (map (symbol_box sizes) kept))

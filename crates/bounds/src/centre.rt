@@ -22,8 +22,7 @@ fn chosen(groups: Groups, group: usize) -> Box
     requires { group < 3 }
     ensures { result ≡ chosen_box groups group }
 {
-    let present = groups.present[group];
-    if present {
+    if groups.present[group] {
         return groups.boxes[group];
     }
     groups.boxes[ALL]
@@ -35,8 +34,8 @@ pub fn doubled_centre(groups: Groups) -> Doubled
     let across = chosen(groups, HORIZONTAL);
     let down = chosen(groups, VERTICAL);
     Doubled {
-        x: across.left as u32 + across.right as u32,
-        y: down.top as u32 + down.bottom as u32,
+        x: u32::from(across.left) + u32::from(across.right),
+        y: u32::from(down.top) + u32::from(down.bottom),
     }
 }
 

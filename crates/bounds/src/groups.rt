@@ -1,27 +1,15 @@
 // Boxes, and one box for each of three groups.
-ghost use Rattle.std.specs.Prelude.{◌≡◌, ◌+◌, ◌<◌, ◌≤◌, ◌^◌, min, max};
+ghost use Rattle.std.specs.Prelude.{◌≡◌, ◌+◌, ◌<◌, ◌≤◌, ◌^◌};
 ghost use Rattle.bounds.specs.Boxes.{grown, base_in, no_groups};
 ghost use Rattle.bounds.specs.Inner.{grown_at, with_symbol};
 
 // The least x and y and the greatest x + width and y + height of some symbols.
-#[derive(Clone, Copy)]
+#[derive(Clone, Copy, Default)]
 pub struct Box {
     pub left: u16,
     pub top: u16,
     pub right: u16,
     pub bottom: u16,
-}
-
-fn least(a: u16, b: u16) -> u16
-    ensures { result ≡ min a b }
-{
-    if a < b { a } else { b }
-}
-
-fn greatest(a: u16, b: u16) -> u16
-    ensures { result ≡ max a b }
-{
-    if a < b { b } else { a }
 }
 
 impl Box {
@@ -42,15 +30,11 @@ impl Box {
     pub fn grow(self, other: Box) -> Box
         ensures { result ≡ grown self other }
     {
-        let left = least(self.left, other.left);
-        let top = least(self.top, other.top);
-        let right = greatest(self.right, other.right);
-        let bottom = greatest(self.bottom, other.bottom);
         Box {
-            left,
-            top,
-            right,
-            bottom,
+            left: self.left.min(other.left),
+            top: self.top.min(other.top),
+            right: self.right.max(other.right),
+            bottom: self.bottom.max(other.bottom),
         }
     }
 }
@@ -62,7 +46,8 @@ pub const HEAD_WITH_TRUNK: usize = 1;
 
 pub const ALL: usize = 2;
 
-// The box of each group, and whether it has a symbol. A group without symbols has a box of zeros.
+// The box of each group, and whether it has a symbol. A group without symbols has a box of zeros. Document 01, "Form by location", asks
+// for an array of boxes with presence flags, and not for an Option of each.
 #[derive(Clone, Copy)]
 pub struct Groups {
     pub boxes: [Box; 3],
@@ -73,14 +58,8 @@ impl Groups {
     pub fn none() -> Groups
         ensures { result ≡ no_groups }
     {
-        let zeros = Box {
-            left: 0,
-            top: 0,
-            right: 0,
-            bottom: 0,
-        };
         Groups {
-            boxes: [zeros; 3],
+            boxes: [Box::default(); 3],
             present: [false; 3],
         }
     }
@@ -91,15 +70,11 @@ impl Groups {
         ensures { result ≡ grown_at self group b }
     {
         let mut next = self;
-        let present = self.present[group];
-        if present {
-            let old = self.boxes[group];
-            let more = old.grow(b);
-            next.boxes[group] = more;
-            next.present[group] = true;
-            return next;
-        }
-        next.boxes[group] = b;
+        next.boxes[group] = if self.present[group] {
+            self.boxes[group].grow(b)
+        } else {
+            b
+        };
         next.present[group] = true;
         next
     }
@@ -126,8 +101,5 @@ fn base_in(code: u16, first: u16, last: u16) -> bool
     ensures { result ≡ base_in first last code }
 {
     let base = 0x100 + (code - 1) / 96;
-    if base < first {
-        return false;
-    }
-    base <= last
+    first <= base && base <= last
 }

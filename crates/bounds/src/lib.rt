@@ -1,4 +1,4 @@
-// The boxes of a sign's symbols and its centre, on arrays.
+// The boxes of a sign's symbols and its centre, in memory.
 #![tactic(auto)]
 
 pub mod centre;

@@ -1,119 +1,78 @@
-// The groups of symbols that lie in arrays, by the size list.
-ghost use Rattle.std.specs.Prelude.{◌≡◌, ◌≤◌, length};
+// The groups of the symbols of a sign, by the size list.
+ghost use Rattle.std.specs.Prelude.{◌≡◌, ◌<◌, ◌≤◌, not, position, length, IfSome};
+ghost use Rattle.std.specs.List.{All as AllItems};
+ghost use Rattle.format.specs.Format.{All};
 ghost use Rattle.format.specs.Numeral.{Range};
 ghost use Rattle.charset.specs.Tokens.{last_code, last_writing};
 ghost use Rattle.grammar.specs.Sign.{ValidSymbol};
-ghost use Rattle.writer.specs.Arrays.{upto, at as value_at, symbol_at};
-ghost use Rattle.token.specs.Result.{refusal};
+ghost use Rattle.token.specs.Result.{outcome};
+ghost use Rattle.writer.specs.Arrays.{upto, symbol_at};
 ghost use Rattle.bounds.specs.Boxes.{symbol_box, groups_of};
-ghost use Rattle.bounds.specs.Sizes.{has_size, first_unsized, measured};
-ghost use Rattle.bounds.specs.Inner.{Codes, Symbols, measured_as};
+ghost use Rattle.bounds.specs.Sizes.{has_size, measured};
 
 use crate::groups::{Box, Groups};
-use token::refusal::{DONE, NO_SYMBOLS, SIZES_LENGTH, SYMBOL_UNSIZED};
+use grammar::Symbols;
+use token::refusal::Refusal;
 
 // Two bytes for each code.
 const SIZES: usize = 125184;
 
 // The box of one symbol.
-fn symbol_box(code: u16, x: u16, y: u16, sizes: &[u8]) -> Box
-    requires { (length sizes.now ≡ 125184) × ValidSymbol (record { code = code; x = x; y = y }) }
+fn symbol_box(code: u16, x: u16, y: u16, sizes: &[u8; SIZES]) -> Box
+    requires { ValidSymbol (record { code = code; x = x; y = y }) }
     ensures { result ≡ symbol_box sizes.now (record { code = code; x = x; y = y }) }
 {
-    let at = 2 * (code as usize - 1);
-    let width = sizes[at] as u16;
-    let height = sizes[at + 1] as u16;
+    let at = 2 * (usize::from(code) - 1);
+    let width = u16::from(sizes[at]);
+    let height = u16::from(sizes[at + 1]);
     Box::new(x, y, width, height)
 }
 
 // Whether a symbol has a glyph.
-fn has_size(code: u16, sizes: &[u8]) -> bool
-    requires { (length sizes.now ≡ 125184) × Range 1 (last_code last_writing) code }
+fn has_size(code: u16, sizes: &[u8; SIZES]) -> bool
+    requires { Range 1 (last_code last_writing) code }
     ensures { result ≡ has_size sizes.now code }
 {
-    let at = 2 * (code as usize - 1);
-    if sizes[at] == 0 {
-        return false;
-    }
-    sizes[at + 1] != 0
+    let at = 2 * (usize::from(code) - 1);
+    sizes[at] != 0 && sizes[at + 1] != 0
 }
 
-// The first of n symbols without size, counted from 1, or 0 where each has one.
-fn first_unsized(codes: &[u16; 64], n: usize, sizes: &[u8]) -> usize
-    requires { (length codes.now ≡ 64) × (length sizes.now ≡ 125184) × (n ≤ 64) × Codes codes.now n }
-    ensures { result ≡ first_unsized sizes.now 1 (upto (value_at codes.now) n) }
+// The place of the first code without size.
+fn first_unsized(codes: &[u16], sizes: &[u8; SIZES]) -> Option<usize>
+    requires { AllItems (Range 1 (last_code last_writing)) codes.now }
+    ensures place { result ≡ position (λ code. not (has_size sizes.now code)) codes.now }
+    ensures within { IfSome result (λ at. at < length codes.now) }
 {
-    let mut i: usize = 0;
-    while i < n {
-        let sized = has_size(codes[i], sizes);
-        if !sized {
-            return i + 1;
-        }
-        i += 1;
-    }
-    0
+    codes.iter().position(|code| !has_size(*code, sizes))
 }
 
 // The groups of n symbols, taken in one by one.
-fn groups_of(codes: &[u16; 64], xs: &[u16; 64], ys: &[u16; 64], n: usize, sizes: &[u8]) -> Groups
-    requires { (length codes.now ≡ 64) × (length xs.now ≡ 64) × (length ys.now ≡ 64) × (length sizes.now ≡ 125184) × (n ≤ 64) × Symbols codes.now xs.now ys.now n }
-    ensures { result ≡ groups_of sizes.now (upto (symbol_at codes.now xs.now ys.now) n) }
+fn groups_of(symbols: &Symbols, n: usize, sizes: &[u8; SIZES]) -> Groups
+    requires { (n ≤ 64) × All ValidSymbol (upto (symbol_at symbols.now) n) }
+    ensures { result ≡ groups_of sizes.now (upto (symbol_at symbols.now) n) }
 {
     let mut groups = Groups::none();
-    let mut i: usize = 0;
-    while i < n {
-        let code = codes[i];
-        let b = symbol_box(code, xs[i], ys[i], sizes);
+    for i in 0..n {
+        let code = symbols.codes[i];
+        let b = symbol_box(code, symbols.xs[i], symbols.ys[i], sizes);
         groups = groups.with_symbol(code, b);
-        i += 1;
     }
     groups
 }
 
-// The groups, or zeros with the refusal and its place.
-#[derive(Clone, Copy)]
-pub struct Measured {
-    pub number: u8,
-    pub place: usize,
-    pub groups: Groups,
-}
-
 // The groups of n symbols: refused as 7, 9, then 8.
-pub fn measure(
-    codes: &[u16; 64],
-    xs: &[u16; 64],
-    ys: &[u16; 64],
-    n: usize,
-    sizes: &[u8],
-) -> Measured
-    requires { (length codes.now ≡ 64) × (length xs.now ≡ 64) × (length ys.now ≡ 64) × (n ≤ 64) × Symbols codes.now xs.now ys.now n }
-    ensures { result ≡ measured_as (measured sizes.now (upto (symbol_at codes.now xs.now ys.now) n)) }
+pub fn measure(symbols: &Symbols, n: usize, sizes: &[u8]) -> Result<Groups, Refusal>
+    requires { (n ≤ 64) × All ValidSymbol (upto (symbol_at symbols.now) n) }
+    ensures { outcome result ≡ measured sizes.now (upto (symbol_at symbols.now) n) }
 {
-    if sizes.len() != SIZES {
-        return unmeasured(SIZES_LENGTH, 0);
-    }
+    let Some(sizes) = sizes.as_array() else {
+        return Err(Refusal::SizesLength);
+    };
     if n == 0 {
-        return unmeasured(NO_SYMBOLS, 0);
+        return Err(Refusal::NoSymbols);
     }
-    let first = first_unsized(codes, n, sizes);
-    if first != 0 {
-        return unmeasured(SYMBOL_UNSIZED, first);
+    if let Some(at) = first_unsized(&symbols.codes[..n], sizes) {
+        return Err(Refusal::SymbolUnsized(at + 1));
     }
-    let groups = groups_of(codes, xs, ys, n, sizes);
-    Measured {
-        number: DONE,
-        place: 0,
-        groups,
-    }
-}
-
-fn unmeasured(number: u8, place: usize) -> Measured
-    ensures { result ≡ measured_as (refusal number place) }
-{
-    let groups = Groups::none();
-    Measured {
-        number,
-        place,
-        groups,
-    }
+    Ok(groups_of(symbols, n, sizes))
 }

@@ -14,7 +14,9 @@ use Rattle.reader.specs.Signs.{sign_of}
 use Rattle.querygrammar.specs.declared.Edition.{Edition}
 use Rattle.querygrammar.specs.declared.Edition.TheVariants.{First, Second}
 use Rattle.querygrammar.specs.Query.{Query, free}
-use Rattle.query.specs.declared.words.Head.{Head}
+use Rattle.std.specs.Prelude.{Result as Answer, Ok, Err, ⊤}
+use Rattle.token.specs.declared.refusal.Refusal.{Refusal}
+use Rattle.token.specs.Refusal.{number_of, place_of}
 use Rattle.query.specs.Inner.{ReadInto}
 use Rattle.query.specs.Reading.{Asked, query_of, query_asked}
 use Rattle.query.proofs.Answers.{query_counted}
@@ -32,27 +34,26 @@ use Rattle.books.specs.Forms.{GoodBy, asked}
 use Rattle.books.specs.Fills.{fill_by, found_in, met_in}
 use Rattle.books.proofs.Forms.{plain_step}
 use Rattle.books.proofs.Fills.{AnswerLaws, EntriesLaws, fills_from, fill_laws, search_laws, found_sound, found_refused, sound_found, found_all, sound_good, checked_sound}
-use Rattle.searching.specs.declared.Searched.{Searched}
-use Rattle.searching.specs.Searching.{not_searched, searched_as, writing, searched_words}
+use Rattle.searching.specs.Searching.{Searched, not_searched, searched_as, writing, searched_words}
 use Rattle.dictionary.specs.Narrowing.{test_of, narrowed}
 use Rattle.dictionary.specs.Search.{found, searched}
 use Rattle.dictionary.specs.SearchLaws.{opening, SearchLaws}
 use Rattle.dictionary.proofs.Asked.{asked_refused, asked_done}
 
 -- WITH A QUERY AS TEXT
-module _ {e : Edition} {s : List ℕ} {h : Head} {words : List ℕ} (v : ReadInto e s word_count h words) (set : Charset) (dict list : List ℕ) where
+module _ {e : Edition} {s : List ℕ} {q : Answer ⊤ Refusal} {words : List ℕ} (v : ReadInto e s word_count q words) (set : Charset) (dict list : List ℕ) where
   -- what the call answers, and the list memory after it
   abbrev Answers : Searched → List ℕ → Type 0
   Answers r after = record { answer : r ≡ searched set dict list (e, s); memory : after ≡ output list (found set dict (e, s)) }
 
-  pub with_refused : (r : Searched) → (h.number ≡ 0 → ⊥) → r ≡ not_searched h.number h.place → Answers r list
+  pub with_refused : {d : Refusal} → q ≡ Err d → Answers (not_searched (number_of d) (place_of d)) list
   unfolding searched found output
-  with_refused r z y = let t = asked_refused v set dict z in record { answer = y ∙ rw t; memory = rw t }
+  with_refused was = let t = asked_refused v set dict was in record { answer = rw t; memory = rw t }
 
-  pub with_done : h.number ≡ 0 → (r : Searched) (after : List ℕ) → (r, after) ≡ searched_words set dict list words → Answers r after
+  pub with_done : {u : ⊤} → q ≡ Ok u → (r : Searched) (after : List ℕ) → (r, after) ≡ searched_words set dict list words → Answers r after
   unfolding searched found searched_words writing
-  with_done z r after j =
-      let t = sym (asked_done v set dict z) in
+  with_done was r after j =
+      let t = sym (asked_done v set dict was) in
       let b = book_of (set, dict) in
       record {
         answer = ap (λ p. p.0) j ∙ ap (λ q. searched_as (length (lines_of dict)) (in_room (length list) (found_in q b))) t;

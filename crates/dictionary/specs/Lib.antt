@@ -3,3 +3,4 @@ pub mod NarrowingLaws
 pub mod Search
 pub mod SearchLaws
 pub mod Inner
+pub mod Taking

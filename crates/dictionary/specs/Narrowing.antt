@@ -4,8 +4,7 @@ use Rattle.charset.specs.declared.Charset.{Charset}
 use Rattle.token.specs.Result.{Result, on_done}
 use Rattle.query.specs.Reading.{Asked, query_asked}
 use Rattle.lines.specs.Checked.{line_count}
-use Rattle.narrowing.specs.declared.Narrowed.{Narrowed}
-use Rattle.narrowing.specs.Narrowing.{rising, distinct, narrowed_by}
+use Rattle.narrowing.specs.Narrowing.{Narrowed, rising, distinct, narrowed_by}
 use Rattle.entries.specs.Entries.{readable}
 use Rattle.entries.specs.Judging.{meets}
 

@@ -6,8 +6,7 @@ use Rattle.query.specs.Reading.{Asked}
 use Rattle.lines.specs.Lines.{lines}
 use Rattle.books.specs.Book.{book_of}
 use Rattle.books.specs.Fills.{found_in}
-use Rattle.searching.specs.declared.Searched.{Searched}
-use Rattle.searching.specs.Searching.{searched_as}
+use Rattle.searching.specs.Searching.{Searched, searched_as}
 use Rattle.dictionary.specs.Narrowing.{test_of}
 
 -- what is written into the list, the entries that meet the query; refused as the query is, then as 12, 14, then 13

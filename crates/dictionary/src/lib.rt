@@ -3,18 +3,21 @@
 
 ghost use Rattle.std.specs.Prelude.{◌≡◌};
 ghost use Rattle.token.specs.Result.{output};
+ghost use Rattle.narrowing.specs.Narrowing.{as_narrowed};
+ghost use Rattle.searching.specs.Searching.{as_searched};
 ghost use Rattle.dictionary.specs.Search.{found, searched};
 ghost use Rattle.dictionary.specs.Narrowing.{narrowed, narrowed_sorted};
 
 use charset::Charset;
-use narrowing::{Narrowed, not_narrowed};
+use matching::judging::Conditions;
+use narrowing::Narrowed;
 use querygrammar::Edition;
 use queryitem::words::WORDS;
+use searching::Searched;
 use searching::words::search_by;
-use searching::{Searched, not_searched};
-use token::refusal::DONE;
+use token::refusal::Refusal;
 
-mod sorted;
+mod forms;
 mod words;
 
 // Writes the entries that meet the query at the start of the list, rising: refused as the query is, then as 12, 14, 13, then as 6
@@ -25,17 +28,14 @@ pub fn search(
     list: &mut [u16],
     edition: Edition,
     query: &[u8],
-) -> Searched
-    ensures answer { result ≡ searched set dict.now list.old (edition, query.now) }
+) -> Result<Searched, Refusal>
+    ensures answer { as_searched result ≡ searched set dict.now list.old (edition, query.now) }
     ensures memory { list.new ≡ output list.old (found set dict.now (edition, query.now)) }
 {
     let mut words = [0u16; WORDS];
-    let q = query::words::read_into(edition, query, &mut words);
-    let number = q.number;
-    if number != DONE {
-        return not_searched(number, q.place);
-    }
-    search_by(set, dict, list, &words)
+    query::words::read_into(edition, query, &mut words)?;
+    let conditions = Conditions { words: &words };
+    search_by(set, dict, list, conditions)
 }
 
 // Of the first n entries of the list, keeps those that meet the query in front, with zeros in the places after them up to n:
@@ -47,16 +47,10 @@ pub fn narrow(
     n: usize,
     edition: Edition,
     query: &[u8],
-) -> Narrowed
-    ensures { (result, list.new) ≡ narrowed set dict.now list.old n (edition, query.now) }
+) -> Result<Narrowed, Refusal>
+    ensures { (as_narrowed result, list.new) ≡ narrowed set dict.now list.old n (edition, query.now) }
 {
-    let mut words = [0u16; WORDS];
-    let q = query::words::read_into(edition, query, &mut words);
-    let number = q.number;
-    if number != DONE {
-        return not_narrowed(number, q.place);
-    }
-    words::narrow_by(set, dict, list, n, &words)
+    words::narrow_as::<forms::Rising>(set, dict, list, n, edition, query)
 }
 
 // As `narrow`, for a list in any order, which it keeps: refused as the query is, then as 12, 14, 11 for an entry that is absent or
@@ -68,15 +62,8 @@ pub fn narrow_sorted(
     n: usize,
     edition: Edition,
     query: &[u8],
-) -> Narrowed
-    ensures { (result, list.new) ≡ narrowed_sorted set dict.now list.old n (edition, query.now) }
+) -> Result<Narrowed, Refusal>
+    ensures { (as_narrowed result, list.new) ≡ narrowed_sorted set dict.now list.old n (edition, query.now) }
 {
-    let mut words = [0u16; WORDS];
-    let q = query::words::read_into(edition, query, &mut words);
-    let number = q.number;
-    let place = q.place;
-    if number != DONE {
-        return not_narrowed(number, place);
-    }
-    sorted::narrow_sorted_by(set, dict, list, n, &words)
+    words::narrow_as::<forms::InAnyOrder>(set, dict, list, n, edition, query)
 }

@@ -1,49 +1,58 @@
-// Narrowing by a query that lies in lent words. A bit for each entry says whether it is listed, and another keeps what was judged: no
-// entry is written before every listed line is judged.
+// Narrowing by the conditions of a query. A bit for each entry says whether it is listed, and another keeps what was judged: no entry
+// is written before every listed line is judged.
 ghost use Rattle.std.specs.Prelude.{◌≡◌};
-ghost use Rattle.narrowing.specs.Narrowing.{rising};
-ghost use Rattle.matching.specs.Inner.{Laid};
-ghost use Rattle.dictionary.specs.Inner.{narrowed_words};
+ghost use Rattle.narrowing.specs.Narrowing.{as_narrowed};
+ghost use Rattle.dictionary.specs.Inner.{narrowed_words, narrowed_text};
 
+use crate::forms::Form;
 use charset::Charset;
+use entries::Counted;
 use entries::finding::find;
 use lines::checked::count_lines;
-use list::bits::{BYTES, add_rising, compact};
-use narrowing::{Narrowed, not_narrowed};
-use token::refusal::{DONE, LINE_WRONG, LIST_WRONG};
+use list::bits::{BYTES, compact};
+use matching::judging::Conditions;
+use narrowing::Narrowed;
+use querygrammar::Edition;
+use queryitem::words::WORDS;
+use token::refusal::Refusal;
 
-pub fn narrow_by<'a>(
+fn narrow_by<F: Form>(
     set: Charset,
-    dict: &'a [u8],
-    list: &'a mut [u16],
+    dict: &[u8],
+    list: &mut [u16],
     n: usize,
-    words: &'a [u16],
-) -> Narrowed
-    requires { Laid words.now }
-    ensures { (result, list.new) ≡ narrowed_words rising set dict.now list.old n words.now }
+    conditions: Conditions,
+) -> Result<Narrowed, Refusal>
+    ensures { (as_narrowed result, list.new) ≡ narrowed_words F.valid set dict.now list.old n conditions.entry.words.now }
 {
-    let counted = count_lines(dict);
-    let number = counted.number;
-    let lines = counted.lines;
-    if number != DONE {
-        return not_narrowed(number, 0);
-    }
+    let lines = count_lines(dict)?;
+    let book = Counted { set, dict, lines };
     let mut listed = [0u8; BYTES];
-    if !add_rising(list, n, lines, &mut listed) {
-        return not_narrowed(LIST_WRONG, 0);
+    if !F::add(list, n, lines, &mut listed) {
+        return Err(Refusal::ListWrong);
     }
     let mut bits = [0u8; BYTES];
-    let found = find(set, dict, lines, words, &listed, &mut bits);
-    let wrong = found.wrong;
-    if wrong != 0 {
-        return not_narrowed(LINE_WRONG, wrong);
+    if let Err(met) = find(book, conditions, &listed, &mut bits) {
+        return Err(F::refusal_of(book, list, n, &listed, met));
     }
     let kept = compact(list, n, &bits);
     let dropped = n - kept;
-    Narrowed {
-        number: DONE,
-        place: 0,
-        kept: kept,
-        dropped: dropped,
-    }
+    Ok(Narrowed { kept, dropped })
+}
+
+// By a query as text.
+pub fn narrow_as<F: Form>(
+    set: Charset,
+    dict: &[u8],
+    list: &mut [u16],
+    n: usize,
+    edition: Edition,
+    query: &[u8],
+) -> Result<Narrowed, Refusal>
+    ensures { (as_narrowed result, list.new) ≡ narrowed_text F.valid set dict.now list.old n (edition, query.now) }
+{
+    let mut words = [0u16; WORDS];
+    query::words::read_into(edition, query, &mut words)?;
+    let conditions = Conditions { words: &words };
+    narrow_by::<F>(set, dict, list, n, conditions)
 }

@@ -14,7 +14,6 @@ use Rattle.list.proofs.Sets.{left_out, holds_none, holds_out, holds_in}
 -- so many lines are passed, the next starts at `start`, and the set has those that pass
 pub record Walking (dict : List ℕ) (count : ℕ) (test : ℕ → Bool) (before bits : List ℕ) (start passed : ℕ) : Type 0 where
   pub lines : count ≡ length (lines_of dict)
-  pub most : passed ≤ count
   pub here : start ≡ line_start dict (passed + 1)
   pub room : count / 8 < length bits
   pub long : length bits ≡ length before
@@ -24,7 +23,6 @@ pub walking_start : (dict : List ℕ) (count : ℕ) (test : ℕ → Bool) (bits 
     → EndsBefore 1 bits → Walking dict count test bits bits 0 0
 walking_start dict count test bits l r h = record {
   lines = l;
-  most = omega arith;
   here = start_first dict ∙ ap (line_start dict) (sym (zero-add 1));
   room = r;
   long = refl;
@@ -32,8 +30,8 @@ walking_start dict count test bits l r h = record {
 }
 
 module _ {dict : List ℕ} {count : ℕ} {test : ℕ → Bool} {before bits : List ℕ} {start passed : ℕ} (w : Walking dict count test before bits start passed) where
-  pub walking_end : count ≤ passed → Holds test count bits
-  walking_end h = let s : passed ≡ count = omega (arith, w.most) in rw s at w.holds
+  pub walking_end : passed ≤ count → count ≤ passed → Holds test count bits
+  walking_end m h = let s : passed ≡ count = omega arith in rw s at w.holds
 
   -- the next entry is not there yet
   pub walking_free : bit_of bits (passed + 1) ≡ false
@@ -56,7 +54,6 @@ module _ {dict : List ℕ} {count : ℕ} {test : ℕ → Bool} {before bits : Li
           let s = length-set bits ((passed + 1) / 8) (byte_of bits ((passed + 1) / 8) + 2 ^ ((passed + 1) % 8)) in
           record {
             lines = w.lines;
-            most = omega arith;
             here = l.next;
             room = omega (arith, w.room, s);
             long = s ∙ w.long;
@@ -66,7 +63,6 @@ module _ {dict : List ℕ} {count : ℕ} {test : ℕ → Bool} {before bits : Li
       pub walking-out : test (passed + 1) ≡ false → Walking dict count test before bits (end + 1) (passed + 1)
       walking-out t = record {
         lines = w.lines;
-        most = omega arith;
         here = l.next;
         room = w.room;
         long = w.long;

@@ -2,7 +2,7 @@
 use Prim.Native.Nat.{ℕ, ◌+◌, ◌-◌, ◌≤◌, ◌<◌}
 use mathlib.Core.Path.{◌≡◌, refl, sym, ap, ◌∙◌}
 use mathlib.Core.List.{List, [], ◌++◌}
-use mathlib.Core.Bool.{Bool, true, false}
+use mathlib.Core.Bool.{Bool, true, false, true≢false}
 use lib.Dec.{leb, ltb}
 use lib.ListN.{length, get_or-append}
 use lib.Seq.{get_or-append-add}
@@ -10,94 +10,70 @@ use native.Mathlib.Omega.{arith}
 use native.Mathlib.Nat.{zero-add}
 use borrow.Author.Tests.{lt-ltb, le-ltb, le-leb, lt-leb, ltb-true, leb-true, leb-false}
 use denote.Ref.{Bor}
+use Rattle.std.specs.Prelude.{Result as Answer, Ok, Err}
+use Rattle.std.specs.Result.{is_err}
 use Rattle.format.specs.Format.{choose}
 use Rattle.token.specs.Result.{Result, refusal, done, check}
 use Rattle.lines.specs.Lines.{lines, ended, few_lines, line_of, line_start, place_in}
-use Rattle.lines.specs.declared.checked.Counted.{Counted}
-use Rattle.lines.specs.Checked.{line_count, counted_as}
-use Rattle.lines.proofs.Counts.{Whole, count_whole, count_done}
+use Rattle.lines.specs.Checked.{check_few, line_count}
+use Rattle.token.proofs.Checks.{refusal_done}
+use Rattle.token.proofs.Refusals.{counted}
+use Rattle.lines.proofs.Counts.{Whole, count_whole}
 use Rattle.lines.proofs.Laws.{line_laws}
-use Rattle.fetching.specs.declared.Refusal.{Refusal}
-use Rattle.fetching.specs.Fetching.{Entry, in_first, in_second, entry_of, fetching, refusal_as, fetched_line, fetched_place, FetchLaws}
-
--- the two checks of each dictionary, over their tests
-abbrev counted : Bool → Bool → ℕ → Result ℕ
-counted t u n = check t 12 0 (check u 14 0 (done n))
-
-abbrev checked : Bool → Bool → Bool → Bool → Result Entry → Result Entry
-checked t₁ t₂ u₁ u₂ r = check t₁ 12 0 (check t₂ 12 0 (check u₁ 14 0 (check u₂ 14 0 r)))
-
-abbrev number : Result ℕ → ℕ
-number r = (counted_as r).number
-
-module _ (n m : ℕ) (r : Result Entry) where
-  first_12 : (t₁ t₂ u₁ u₂ : Bool) → number (counted t₁ u₁ n) ≡ 12 → checked t₁ t₂ u₁ u₂ r ≡ refusal 12 0
-  first_12 false t₂ u₁ u₂ e = refl
-  first_12 true t₂ true u₂ e = absurd (omega arith)
-  first_12 true t₂ false u₂ e = absurd (omega arith)
-
-  second_wrong : (t₁ t₂ u₁ u₂ : Bool) → (number (counted t₁ u₁ n) ≡ 12 → ⊥) → (number (counted t₂ u₂ m) ≡ 0 → ⊥)
-      → checked t₁ t₂ u₁ u₂ r ≡ refusal (number (counted t₂ u₂ m)) 0
-  second_wrong false t₂ u₁ u₂ e z = absurd (e refl)
-  second_wrong true false u₁ u₂ e z = refl
-  second_wrong true true u₁ true e z = absurd (z refl)
-  second_wrong true true true false e z = refl
-  second_wrong true true false false e z = refl
-
-  first_14 : (t₁ t₂ u₁ u₂ : Bool) → number (counted t₂ u₂ m) ≡ 0 → (number (counted t₁ u₁ n) ≡ 12 → ⊥) → (number (counted t₁ u₁ n) ≡ 0 → ⊥)
-      → checked t₁ t₂ u₁ u₂ r ≡ refusal (number (counted t₁ u₁ n)) 0
-  first_14 false t₂ u₁ u₂ e y z = absurd (y refl)
-  first_14 true false u₁ u₂ e y z = absurd (omega arith)
-  first_14 true true true u₂ e y z = absurd (z refl)
-  first_14 true true false u₂ e y z = refl
+use Rattle.token.specs.declared.refusal.Refusal.{Refusal as Reason}
+use Rattle.fetching.specs.Fetching.{Entry, in_first, in_second, entry_of, fetching, Refusal, refusal_as, as_refusal, fetched_line, fetched_place, FetchLaws}
 
 -- one law for each return of `fetch_refusal`
-module _ (d s : List ℕ) (k : ℕ) (a b : Counted) (e : a ≡ counted_as (line_count d)) (f : b ≡ counted_as (line_count s)) where
+module _ (d s : List ℕ) (k : ℕ) where
   abbrev rest : Result Entry
   rest = check (ltb 0 k) 16 0 (check (leb k (length (lines d) + length (lines s))) 16 0 (done (entry_of (length (lines d)) k)))
 
-  pub first_unended : a.number ≡ 12 → fetching d s k ≡ refusal a.number 0
+  pub first_unended : ended d ≡ false → fetching d s k ≡ refusal 12 0
   unfolding fetching
-  first_unended h = rw h (first_12 _ (length (lines s)) rest (ended d) (ended s) (few_lines d) (few_lines s) (sym (ap (λ c. c.number) e) ∙ h))
+  first_unended t = rw t
 
-  module _ (h : a.number ≡ 12 → ⊥) where
-    pub second_refused : (b.number ≡ 0 → ⊥) → fetching d s k ≡ refusal b.number 0
+  pub second_unended : ended d ≡ true → ended s ≡ false → fetching d s k ≡ refusal 12 0
+  unfolding fetching
+  second_unended t u = rw (t, u)
+
+  module _ (t : ended d ≡ true) (u : ended s ≡ true) where
+    opened : fetching d s k ≡ check_few (length (lines d)) (check_few (length (lines s)) rest)
     unfolding fetching
-    second_refused z =
-        rw f (second_wrong (length (lines d)) _ rest (ended d) (ended s) (few_lines d) (few_lines s) (λ q. h (ap (λ c. c.number) e ∙ q)) (λ q. z (ap (λ c. c.number) f ∙ q)))
+    opened = rw (t, u)
 
-    module _ (y : b.number ≡ 0) where
-      pub first-refused : (a.number ≡ 0 → ⊥) → fetching d s k ≡ refusal a.number 0
-      unfolding fetching
-      first-refused z =
-          rw e
-          (first_14 _ (length (lines s)) rest (ended d) (ended s) (few_lines d) (few_lines s) (sym (ap (λ c. c.number) f) ∙ y) (λ q. h (ap (λ c. c.number) e ∙ q))
-          (λ q. z (ap (λ c. c.number) e ∙ q)))
+    many : (t : Bool) (n x p : ℕ) (r : Result Entry) → refusal x p ≡ check t 14 0 (done n) → check t 14 0 r ≡ refusal x p
+    many true n x p r e = refusal_done x p e
+    many false n x p r e = let a : x ≡ 14 = cc in let b : p ≡ 0 = cc in rw (a, b)
 
-      module _ (x : a.number ≡ 0) where
-        firsts : Whole d a.lines
-        firsts = count_whole d a.lines (count_done d a e x)
+    pub first_refused : {x p : ℕ} → refusal x p ≡ line_count d → fetching d s k ≡ refusal x p
+    first_refused e = opened ∙ many (few_lines d) (length (lines d)) _ _ _ (e ∙ rw t)
 
-        seconds : Whole s b.lines
-        seconds = count_whole s b.lines (count_done s b f y)
+    module _ {n : ℕ} (a : done n ≡ line_count d) where
+      firsts : Whole d n
+      firsts = count_whole d n (sym a)
 
-        pub few : (a.lines ≤ 65535) × (b.lines ≤ 65535)
+      pub second_refused : {x p : ℕ} → refusal x p ≡ line_count s → fetching d s k ≡ refusal x p
+      second_refused e = opened ∙ rw (← firsts.lines, le-leb n 65535 firsts.few) (many (few_lines s) (length (lines s)) _ _ _ (e ∙ rw u))
+
+      module _ {m : ℕ} (b : done m ≡ line_count s) where
+        seconds : Whole s m
+        seconds = count_whole s m (sym b)
+
+        pub few : (n ≤ 65535) × (m ≤ 65535)
         few = (firsts.few, seconds.few)
 
-        asked : fetching d s k ≡ check (ltb 0 k) 16 0 (check (leb k (a.lines + b.lines)) 16 0 (done (entry_of a.lines k)))
-        unfolding fetching
-        asked =
-            rw (firsts.whole, seconds.whole, ← firsts.lines, le-leb a.lines 65535 firsts.few, ← seconds.lines, le-leb b.lines 65535 seconds.few)
+        asked : fetching d s k ≡ check (ltb 0 k) 16 0 (check (leb k (n + m)) 16 0 (done (entry_of n k)))
+        asked = opened ∙ rw (← firsts.lines, le-leb n 65535 firsts.few, ← seconds.lines, le-leb m 65535 seconds.few)
 
         pub no-entry : k ≡ 0 → fetching d s k ≡ refusal 16 0
         no-entry z = asked ∙ rw (le-ltb 0 k (omega arith))
 
         module _ (z : k ≡ 0 → ⊥) where
-          pub past-entries : a.lines + b.lines < k → fetching d s k ≡ refusal 16 0
-          past-entries w = asked ∙ rw (lt-ltb 0 k (omega arith), lt-leb k (a.lines + b.lines) w)
+          pub past-entries : n + m < k → fetching d s k ≡ refusal 16 0
+          past-entries w = asked ∙ rw (lt-ltb 0 k (omega arith), lt-leb k (n + m) w)
 
-          pub an-entry : k ≤ a.lines + b.lines → fetching d s k ≡ done (entry_of a.lines k)
-          an-entry w = asked ∙ rw (lt-ltb 0 k (omega arith), le-leb k (a.lines + b.lines) w)
+          pub an-entry : k ≤ n + m → fetching d s k ≡ done (entry_of n k)
+          an-entry w = asked ∙ rw (lt-ltb 0 k (omega arith), le-leb k (n + m) w)
 
 pub answered : (d s : List ℕ) (k : ℕ) (f : Result Entry) (r : Refusal) → fetching d s k ≡ f → r ≡ refusal_as f → r ≡ refusal_as (fetching d s k)
 answered d s k f r e q = q ∙ ap refusal_as (sym e)
@@ -127,6 +103,10 @@ accepted d s k r e z =
     (sym (ap (λ x. x.number) e) ∙ z) in
     record { whole = t.0; low = ltb-true 0 k t.1; high = leb-true k (length (lines d) + length (lines s)) t.2.0; is = t.2.1 }
 
+pub accepted_by : (d s : List ℕ) (k : ℕ) (r : Answer (Unit {0}) Reason) → as_refusal r ≡ refusal_as (fetching d s k) → is_err r ≡ false → Accepted d s k
+accepted_by d s k (Ok nothing) e z = accepted d s k (as_refusal (Ok nothing)) e refl
+accepted_by d s k (Err reason) e z = absurd (true≢false z)
+
 -- the part and its place, by what fetching comes to
 abbrev pub Part : Bor (List ℕ) → Bor (List ℕ) → List ℕ → ℕ × ℕ → Result Entry → Type 0
 Part d s line place f = record { bytes : line ≡ fetched_line d.now s.now f; place : place ≡ fetched_place d s f }
@@ -137,9 +117,10 @@ module _ (d s : Bor (List ℕ)) (k : ℕ) where
   no_part (refusal number place) z = record { bytes = refl; place = rw (zero-add d.ref_ptr.1) }
   no_part (done e) z = absurd (z refl)
 
-  pub refused_part : (r : Refusal) → r ≡ refusal_as (fetching d.now s.now k) → (r.number ≡ 0 → ⊥)
+  pub refused_part : (r : Answer (Unit {0}) Reason) → as_refusal r ≡ refusal_as (fetching d.now s.now k) → is_err r ≡ true
       → Part d s [] (d.ref_ptr.0, 0 + d.ref_ptr.1) (fetching d.now s.now k)
-  refused_part r e z = no_part (fetching d.now s.now k) (λ q. z (ap (λ x. x.number) e ∙ q))
+  refused_part (Ok nothing) e z = absurd (true≢false (sym z))
+  refused_part (Err reason) e z = no_part (fetching d.now s.now k) (λ q. counted reason (ap (λ x. x.number) e ∙ q))
 
   module _ (a : Accepted d.now s.now k) (n : ℕ) (e : n ≡ length (lines d.now)) where
     pub first_part : k ≤ n → Part d s (line_of d.now k) (place_in d (line_start d.now k)) (fetching d.now s.now k)

@@ -1,12 +1,12 @@
 -- Fetching from two dictionaries (document 01, "The dictionary and its list"; "Refusal numbers", order).
-use Rattle.std.specs.Prelude.{ℕ, ◌+◌, ◌-◌, List, [], ◌++◌, ◌≡◌, leb, ltb, length}
+use Rattle.std.specs.Prelude.{Result as Answer, Ok, Err, ℕ, ◌+◌, ◌-◌, List, [], ◌++◌, ◌≡◌, leb, ltb, length}
 use Rattle.std.specs.Borrow.{Bor}
 use Rattle.format.specs.Format.{choose}
-use Rattle.token.specs.Refusal.{entry_absent}
+use Rattle.token.specs.declared.refusal.Refusal.{Refusal as Reason}
+use Rattle.token.specs.Refusal.{entry_absent, number_of, place_of}
 use Rattle.token.specs.Result.{Result, refusal, done, check}
 use Rattle.lines.specs.Lines.{lines, ended, line_of, line_start, place_in}
 use Rattle.lines.specs.Checked.{check_ended, check_few}
-use Rattle.fetching.specs.declared.Refusal.{Refusal}
 
 -- line k of the first dictionary, or of the second
 pub data Entry : Type 0 where
@@ -28,10 +28,19 @@ fetching first second number =
     (check (leb number (length (lines first) + length (lines second))) entry_absent 0
     (done (entry_of (length (lines first)) number)))))))
 
--- what the separate entry answers
+-- what the separate entry answers, as numbers
+pub record Refusal : Type 0 where
+  pub number : ℕ
+  pub place : ℕ
+
 abbrev pub refusal_as : Result Entry → Refusal
 refusal_as (refusal number place) = record { number = number; place = place }
 refusal_as (done entry) = record { number = 0; place = 0 }
+
+-- and by the function that makes it
+abbrev pub as_refusal : Answer (Unit {0}) Reason → Refusal
+as_refusal (Ok nothing) = record { number = 0; place = 0 }
+as_refusal (Err e) = record { number = number_of e; place = place_of e }
 
 -- the line, and where it lies; refused: the empty part at the start of the first dictionary
 unfoldable pub fetched_line : List ℕ → List ℕ → Result Entry → List ℕ

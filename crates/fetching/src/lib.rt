@@ -2,54 +2,26 @@
 #![tactic(auto)]
 
 ghost use Rattle.std.specs.Prelude.{◌≡◌};
-ghost use Rattle.fetching.specs.Fetching.{fetching, fetched_line, fetched_place, refusal_as};
+ghost use Rattle.fetching.specs.Fetching.{fetching, fetched_line, fetched_place, refusal_as, as_refusal};
 
 use lines::checked::count_lines;
-use lines::walk::{count, line};
-use token::refusal::{DICTIONARY_UNENDED, DONE, ENTRY_ABSENT};
+use lines::walk::{count, is_ended, line};
+use token::refusal::Refusal;
 
-// Whether fetching is refused.
-#[derive(Clone, Copy)]
-pub struct Refusal {
-    pub number: u8,
-    pub place: usize,
-}
-
-fn refusal_of(number: u8) -> Refusal
-    ensures { result ≡ record { number = number; place = 0 } }
+// Whether fetching is refused, and why: 12 for the first, then the second dictionary, 14 likewise, then 16.
+pub fn fetch_refusal(first: &[u8], second: &[u8], number: usize) -> Result<(), Refusal>
+    ensures { as_refusal result ≡ refusal_as (fetching first.now second.now number) }
 {
-    Refusal {
-        number: number,
-        place: 0,
+    // 12 of the second comes before 14 of the first
+    if !is_ended(first) || !is_ended(second) {
+        return Err(Refusal::DictionaryUnended);
     }
-}
-
-// Why fetching is refused: 12 for the first, then the second dictionary, 14 likewise, then 16.
-pub fn fetch_refusal(first: &[u8], second: &[u8], number: usize) -> Refusal
-    ensures { result ≡ refusal_as (fetching first.now second.now number) }
-{
-    let firsts = count_lines(first);
-    let seconds = count_lines(second);
-    let early = firsts.number;
-    let late = seconds.number;
-    let unended = early == DICTIONARY_UNENDED;
-    if unended {
-        return refusal_of(early);
+    let firsts = count_lines(first)?;
+    let seconds = count_lines(second)?;
+    if number == 0 || firsts + seconds < number {
+        return Err(Refusal::EntryAbsent);
     }
-    // 12 of the second comes before 14 of the first; two of 14 are alike
-    if late != DONE {
-        return refusal_of(late);
-    }
-    if early != DONE {
-        return refusal_of(early);
-    }
-    if number == 0 {
-        return refusal_of(ENTRY_ABSENT);
-    }
-    if firsts.lines + seconds.lines < number {
-        return refusal_of(ENTRY_ABSENT);
-    }
-    refusal_of(DONE)
+    Ok(())
 }
 
 // The line of this number, without its byte 10, as a part of the dictionary that holds it. Numbers start from 1 and run on
@@ -58,8 +30,7 @@ pub fn fetch<'a>(first: &'a [u8], second: &'a [u8], number: usize) -> &'a [u8]
     ensures bytes { result.now ≡ fetched_line first.now second.now (fetching first.now second.now number) }
     ensures place { result.ref_ptr ≡ fetched_place first.entry second.entry (fetching first.now second.now number) }
 {
-    let refused = fetch_refusal(first, second, number).number;
-    if refused != DONE {
+    if fetch_refusal(first, second, number).is_err() {
         return &first[0..0];
     }
     let firsts = count(first);

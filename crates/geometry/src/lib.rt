@@ -1,18 +1,20 @@
 // The boxes and the centre of a sign, and signs that are shifted or centred. Each entry takes any bytes and any numbers.
 #![tactic(auto)]
 
-ghost use Rattle.std.specs.Prelude.{◌≡◌, ◌<◌, ◌^◌};
-ghost use Rattle.token.specs.Result.{refusal, written, output};
+ghost use Rattle.std.specs.Prelude.{◌≡◌};
+ghost use Rattle.token.specs.Result.{as_written, written, output};
 ghost use Rattle.moving.specs.Moves.{shifted_text, centred_text};
-ghost use Rattle.geometry.specs.Geometry.{bounds_as, bounds_of, Exact};
-ghost use Rattle.geometry.specs.Inner.{Answered};
+ghost use Rattle.geometry.specs.Geometry.{as_bounds, bounds_of, Exact};
+ghost use Rattle.geometry.specs.Inner.{Bounding};
 
-use bounds::centre::Doubled;
+use bounds::centre::{Doubled, doubled_centre, half};
 use bounds::groups::{ALL, Groups};
+use bounds::measure::measure;
 use charset::Charset;
-use moving::writing::{Amount, refused};
-use token::Written;
-use token::refusal::DONE;
+use grammar::{Head, Symbols};
+use moving::writing::{to_middle, write_moved};
+use reader::arrays::read_into;
+use token::refusal::Refusal;
 
 // The centre of each axis.
 #[derive(Clone, Copy)]
@@ -24,130 +26,63 @@ pub struct Centre {
 // The boxes of head, head with trunk and all, each with whether it has a symbol; and the centre, doubled and by itself.
 #[derive(Clone, Copy)]
 pub struct Bounds {
-    pub number: u8,
-    pub place: usize,
     pub groups: Groups,
     pub doubled: Doubled,
     pub centre: Centre,
 }
 
-fn answer(number: u8, place: usize, groups: Groups, doubled: Doubled) -> Bounds
-    requires { (doubled.x < 2 ^ 24) × (doubled.y < 2 ^ 24) }
-    ensures { Answered number place groups doubled result }
+fn bounds_with(groups: Groups) -> Bounds
+    ensures { Bounding groups result }
 {
-    let x = bounds::centre::half(doubled.x);
-    let y = bounds::centre::half(doubled.y);
+    let doubled = doubled_centre(groups);
+    let x = half(doubled.x);
+    let y = half(doubled.y);
     Bounds {
-        number,
-        place,
         groups,
         doubled,
         centre: Centre { x, y },
     }
 }
 
-fn no_bounds(number: u8, place: usize) -> Bounds
-    ensures { (result ≡ bounds_as (refusal number place)) × Exact result }
-{
-    answer(number, place, Groups::none(), Doubled { x: 0, y: 0 })
-}
-
 // The boxes of a sign: refused as 1 to 4 by the reader, then as 7, 9, 8.
-pub fn boxes(set: Charset, text: &[u8], sizes: &[u8]) -> Bounds
-    ensures answer { result ≡ bounds_of set text.now sizes.now }
-    ensures exact { Exact result }
+pub fn boxes(set: Charset, text: &[u8], sizes: &[u8]) -> Result<Bounds, Refusal>
+    ensures answer { as_bounds result ≡ bounds_of set text.now sizes.now }
+    ensures exact { Exact (as_bounds result) }
 {
-    let mut prefix = [0u16; 32];
-    let mut codes = [0u16; 64];
-    let mut xs = [0u16; 64];
-    let mut ys = [0u16; 64];
-    let h = reader::arrays::read_into(set, text, &mut prefix, &mut codes, &mut xs, &mut ys);
-    let number = h.number;
-    if number != DONE {
-        return no_bounds(number, h.place);
-    }
-    let m = bounds::measure::measure(&codes, &xs, &ys, h.symbol_count, sizes);
-    let refusal = m.number;
-    if refusal != DONE {
-        return no_bounds(refusal, m.place);
-    }
-    let groups = m.groups;
-    let doubled = bounds::centre::doubled_centre(groups);
-    answer(DONE, 0, groups, doubled)
+    let mut symbols = Symbols::none();
+    let head = read_into(set, text, &mut symbols)?;
+    let groups = measure(&symbols, head.symbol_count, sizes)?;
+    Ok(bounds_with(groups))
 }
 
-// Writes a sign with a pair added to every coordinate and to the stated maximum: refused as 1 to 4 by the reader, then as 10, 6.
-pub fn shift(set: Charset, text: &[u8], dx: i32, dy: i32, out: &mut [u8]) -> Written
-    ensures answer { result ≡ written out.old (shifted_text set text.now dx dy) }
+// Writes a sign with a pair added to every coordinate and to the stated maximum, and returns the text's length: refused as 1 to 4 by
+// the reader, then as 10, 6.
+pub fn shift(set: Charset, text: &[u8], dx: i32, dy: i32, out: &mut [u8]) -> Result<usize, Refusal>
+    ensures answer { as_written result ≡ written out.old (shifted_text set text.now dx dy) }
     ensures memory { out.new ≡ output out.old (shifted_text set text.now dx dy) }
 {
-    let mut prefix = [0u16; 32];
-    let mut codes = [0u16; 64];
-    let mut xs = [0u16; 64];
-    let mut ys = [0u16; 64];
-    let h = reader::arrays::read_into(set, text, &mut prefix, &mut codes, &mut xs, &mut ys);
-    let number = h.number;
-    if number != DONE {
-        return refused(number, h.place);
-    }
-    let x = Amount::of(dx);
-    let y = Amount::of(dy);
-    moving::writing::write_moved(
-        set,
-        h.marker,
-        h.max_x,
-        h.max_y,
-        h.prefix_count,
-        h.symbol_count,
-        &prefix,
-        &codes,
-        &xs,
-        &ys,
-        x,
-        y,
-        out,
-    )
+    let mut symbols = Symbols::none();
+    let head = read_into(set, text, &mut symbols)?;
+    write_moved(set, head, &symbols, i64::from(dx), i64::from(dy), out)
 }
 
-// Writes a sign with its centre, rounded down, at 500, and the whole box's maximum as the stated one: refused as 1 to 4 by the reader, then as 7, 9, 8, 10, 6.
-pub fn centred(set: Charset, text: &[u8], sizes: &[u8], out: &mut [u8]) -> Written
-    ensures answer { result ≡ written out.old (centred_text set text.now sizes.now) }
+// Writes a sign with its centre, rounded down, at 500, and the whole box's maximum as the stated one, and returns the text's length:
+// refused as 1 to 4 by the reader, then as 7, 9, 8, 10, 6.
+pub fn centred(set: Charset, text: &[u8], sizes: &[u8], out: &mut [u8]) -> Result<usize, Refusal>
+    ensures answer { as_written result ≡ written out.old (centred_text set text.now sizes.now) }
     ensures memory { out.new ≡ output out.old (centred_text set text.now sizes.now) }
 {
-    let mut prefix = [0u16; 32];
-    let mut codes = [0u16; 64];
-    let mut xs = [0u16; 64];
-    let mut ys = [0u16; 64];
-    let h = reader::arrays::read_into(set, text, &mut prefix, &mut codes, &mut xs, &mut ys);
-    let number = h.number;
-    if number != DONE {
-        return refused(number, h.place);
-    }
-    let m = bounds::measure::measure(&codes, &xs, &ys, h.symbol_count, sizes);
-    let refusal = m.number;
-    if refusal != DONE {
-        return refused(refusal, m.place);
-    }
-    let groups = m.groups;
-    let doubled = bounds::centre::doubled_centre(groups);
+    let mut symbols = Symbols::none();
+    let head = read_into(set, text, &mut symbols)?;
+    let groups = measure(&symbols, head.symbol_count, sizes)?;
+    let doubled = doubled_centre(groups);
     let whole = groups.boxes[ALL];
-    let right = whole.right;
-    let bottom = whole.bottom;
-    let x = Amount::to_middle(doubled.x);
-    let y = Amount::to_middle(doubled.y);
-    moving::writing::write_moved(
-        set,
-        h.marker,
-        right,
-        bottom,
-        h.prefix_count,
-        h.symbol_count,
-        &prefix,
-        &codes,
-        &xs,
-        &ys,
-        x,
-        y,
-        out,
-    )
+    let stated = Head {
+        max_x: whole.right,
+        max_y: whole.bottom,
+        ..head
+    };
+    let x = to_middle(doubled.x);
+    let y = to_middle(doubled.y);
+    write_moved(set, stated, &symbols, x, y, out)
 }

@@ -1,4 +1,3 @@
 pub mod Left
-pub mod Counts
-pub mod StyledCounts
+pub mod Told
 pub mod Finding

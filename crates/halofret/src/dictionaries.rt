@@ -10,9 +10,8 @@ ghost use Rattle.layout.specs.Layouts.{set_of, edition_of};
 ghost use Rattle.layout.specs.Dictionaries.{searched_numbers, narrowed_numbers, sorted_numbers, fetched_numbers};
 
 use layout::fetched::line_numbers;
-use layout::numbers::{edition_of, narrowed_numbers, searched_numbers, set_of, sorted_numbers};
+use layout::numbers::{edition_of, narrowed_numbers, refused, searched_numbers, set_of, told};
 use lines::walk::count;
-use token::refusal::DONE;
 
 // Writes the entries that meet the query at the start of the list, rising.
 #[unsafe(no_mangle)]
@@ -92,7 +91,7 @@ pub extern "C" fn halofret_sort(
     ensures memory { list.new ≡ list_after list.old n (sorted (set_of swu) dict.now list.old n spare.old) }
     ensures second { spare.new ≡ spare_after spare.old n (sorted (set_of swu) dict.now list.old n spare.old) }
 {
-    *answer = sorted_numbers(sorting::sort(set_of(swu), dict, list, n, spare));
+    *answer = told(&sorting::sort(set_of(swu), dict, list, n, spare));
 }
 
 // Where the line of this number lies: 0 for the first dictionary and 1 for the second, its start there and its length,
@@ -101,15 +100,14 @@ pub extern "C" fn halofret_sort(
 pub extern "C" fn halofret_fetch(first: &[u8], second: &[u8], number: usize, answer: &mut [u64; 4])
     ensures { answer.new ≡ fetched_numbers first.now second.now (fetching first.now second.now number) }
 {
-    let refused = fetching::fetch_refusal(first, second, number).number;
-    if refused != DONE {
-        *answer = [refused as u64, 0, 0, 0];
+    if let Err(e) = fetching::fetch_refusal(first, second, number) {
+        *answer = refused(e);
         return;
     }
     let firsts = count(first);
     if number <= firsts {
         *answer = line_numbers(0, first, number);
-        return;
+    } else {
+        *answer = line_numbers(1, second, number - firsts);
     }
-    *answer = line_numbers(1, second, number - firsts);
 }

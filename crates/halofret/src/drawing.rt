@@ -7,7 +7,6 @@ ghost use Rattle.layout.specs.Layouts.{set_of, written_numbers, bounds_numbers, 
 
 use layout::boxes::bounds_numbers;
 use layout::numbers::{set_of, written_numbers};
-use token::refusal::DONE;
 
 // The boxes of head, head with trunk and all: present, left, top, right, bottom of each; then twice the centre, x and y.
 // The centre itself is written, x and y, and is as it was where the call is refused.
@@ -24,9 +23,8 @@ pub extern "C" fn halofret_boxes(
 {
     let b = geometry::boxes(set_of(swu), text, sizes);
     *answer = bounds_numbers(b);
-    if b.number == DONE {
-        let c = b.centre;
-        *centre = [c.x, c.y];
+    if let Ok(b) = b {
+        *centre = [b.centre.x, b.centre.y];
     }
 }
 

@@ -4,7 +4,7 @@ ghost use Rattle.query.specs.Reading.{query_of, reading_of};
 ghost use Rattle.verdict.specs.Verdict.{verdict_in};
 ghost use Rattle.layout.specs.Layouts.{set_of, edition_of, query_numbers, verdict_numbers};
 
-use layout::numbers::{edition_of, set_of};
+use layout::numbers::{edition_of, set_of, told};
 use layout::verdicts::verdict_numbers;
 
 // Whether a query of an edition is refused.
@@ -17,8 +17,7 @@ pub extern "C" fn halofret_read_query(
 )
     ensures { answer.new ≡ query_numbers (reading_of (query_of (edition_of second query_swu) query.now)) }
 {
-    let r = query::read(edition_of(second, query_swu), query);
-    *answer = [r.number as u64, r.place as u64];
+    *answer = told(&query::read(edition_of(second, query_swu), query));
 }
 
 // Whether a sign meets a query: met, the unmet condition, then 32 witnesses.

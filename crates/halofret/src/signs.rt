@@ -5,10 +5,10 @@ ghost use Rattle.sign.specs.Reading.{reading_in};
 ghost use Rattle.sign.specs.Transcription.{transcription};
 ghost use Rattle.layout.specs.Layouts.{set_of, written_numbers, reading_numbers, sign_left};
 
-use layout::numbers::{set_of, written_numbers};
+use grammar::Symbols;
+use layout::numbers::{refused, set_of, written_numbers};
 use layout::signs::put_sign;
 use reader::arrays::read_into;
-use token::refusal::DONE;
 
 // Reads a sign into 325 numbers: marker, maximum x and y, prefix count, symbol count, 32 prefix codes, then 64 codes, 64 x
 // and 64 y of the signbox, then 32 offsets of the prefix and 64 of the signbox. Refused: all of them are as they were, and
@@ -23,18 +23,14 @@ pub extern "C" fn halofret_read(
     ensures answer { answer.new ≡ reading_numbers (reading_in (set_of swu) text.now) }
     ensures memory { sign.new ≡ sign_left sign.old (reading_in (set_of swu) text.now) }
 {
-    let mut prefix = [0u16; 32];
-    let mut codes = [0u16; 64];
-    let mut xs = [0u16; 64];
-    let mut ys = [0u16; 64];
+    let mut symbols = Symbols::none();
     let set = set_of(swu);
-    let h = read_into(set, text, &mut prefix, &mut codes, &mut xs, &mut ys);
-    let number = h.number;
-    let place = h.place;
-    *answer = [number as u64, place as u64];
-    let read = number == DONE;
-    if read {
-        put_sign(sign, set, h, &prefix, &codes, &xs, &ys);
+    match read_into(set, text, &mut symbols) {
+        Ok(head) => {
+            *answer = [0, 0];
+            put_sign(sign, set, head, &symbols);
+        }
+        Err(e) => *answer = refused(e),
     }
 }
 

@@ -8,10 +8,10 @@ ghost use Rattle.styling.specs.Transcription.{styled_transcription};
 ghost use Rattle.styling.specs.Writing.{writing};
 ghost use Rattle.layout.specs.Layouts.{set_of, written_numbers, reading_numbers, sign_left};
 
-use layout::numbers::{set_of, written_numbers};
+use grammar::Symbols;
+use layout::numbers::{refused, set_of, written_numbers};
 use layout::signs::put_sign;
 use styling::text::{fill, styled_into};
-use token::refusal::DONE;
 
 // Reads a sign with its styling, the sign as halofret_read lays it out. Refused: both are as they were.
 #[unsafe(no_mangle)]
@@ -26,30 +26,17 @@ pub extern "C" fn halofret_read_styled(
     ensures memory { sign.new ≡ sign_left sign.old (styled_reading (set_of swu) text.now) }
     ensures styles { styling.new ≡ record_left styling.old (styled_of (set_of swu) text.now) }
 {
-    let mut prefix = [0u16; 32];
-    let mut codes = [0u16; 64];
-    let mut xs = [0u16; 64];
-    let mut ys = [0u16; 64];
+    let mut symbols = Symbols::none();
     let mut draft = [0u16; 504];
     let set = set_of(swu);
-    let h = styled_into(
-        set,
-        text,
-        &mut prefix,
-        &mut codes,
-        &mut xs,
-        &mut ys,
-        &mut draft,
-    );
-    let number = h.number;
-    let place = h.place;
-    if number != DONE {
-        *answer = [number as u64, place as u64];
-        return;
+    match styled_into(set, text, &mut symbols, &mut draft) {
+        Ok((head, place)) => {
+            *answer = [0, 0];
+            put_sign(sign, set, head, &symbols);
+            fill(&text[place..], &draft, styling);
+        }
+        Err(e) => *answer = refused(e),
     }
-    *answer = [0, 0];
-    put_sign(sign, set, h, &prefix, &codes, &xs, &ys);
-    fill(&text[place..], &draft, styling);
 }
 
 // Writes a sign in the other character set, and the bytes of its styling as they are.

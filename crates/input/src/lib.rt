@@ -1,50 +1,58 @@
-// Reading an input to its end, or knowing that it could not be read.
+// What a program that answers its whole input does: reading the input to its end, or knowing that it could not be read, and writing
+// the answer.
 #![tactic(auto)]
 
+ghost use Rattle.std.specs.Prelude.{ℕ, ◌≤◌, length};
 ghost use Rattle.io.specs.Counts.{IsPrefixLen};
+ghost use Rattle.input.specs.Reads.{bytes_read};
 
-use std::io::Read;
+use std::io::{Print, Read};
 
-// What was read to the start of a buffer: how many bytes, and whether a read failed.
-#[derive(Clone, Copy)]
-pub struct Input {
-    pub length: usize,
-    pub failed: bool,
+// One byte more than the largest good input: what is longer is seen to be too long.
+const INPUT_BYTES: usize = 50178;
+
+// What the longest answer takes.
+const ANSWER_BYTES: usize = 12320;
+
+// A read failed: how many bytes were read before it.
+#[derive(Clone, Copy, Debug, PartialEq, Eq)]
+pub struct CutShort {
+    pub read: usize,
 }
 
-// One read; no bytes without a failure are the end of the input.
-fn read_once<R: Read>(reader: &mut R, buf: &mut [u8]) -> Input
-    ensures { IsPrefixLen result.length buf.new }
-{
-    match reader.read(buf) {
-        Ok(length) => Input {
-            length,
-            failed: false,
-        },
-        Err(_) => Input {
-            length: 0,
-            failed: true,
-        },
-    }
-}
-
-// Reads until the input ends, the buffer is full or a read fails.
-pub fn read_input<R: Read>(reader: &mut R, buf: &mut [u8]) -> Input
-    ensures { IsPrefixLen result.length buf.new }
+// Reads until the input ends or the buffer is full, and returns how many bytes were read.
+pub fn read_input<R: Read>(reader: &mut R, buf: &mut [u8]) -> Result<usize, CutShort>
+    ensures { IsPrefixLen (bytes_read result) buf.new }
 {
     let mut n = 0;
+    // `while`: a read says how far it came
     while n < buf.len() {
-        let more = read_once(reader, &mut buf[n..]);
-        if more.length == 0 {
-            return Input {
-                length: n,
-                failed: more.failed,
-            };
+        match reader.read(&mut buf[n..]) {
+            Err(_) => return Err(CutShort { read: n }),
+            Ok(0) => break,
+            Ok(more) => n += more,
         }
-        n += more.length;
     }
-    Input {
-        length: n,
-        failed: false,
+    Ok(n)
+}
+
+// Answers standard input on standard output by `report`, which fills the start of a memory and returns how far. Where reading fails
+// nothing is answered, so that a part of the input is never taken for all of it.
+pub fn answer<F: FnOnce(&[u8], &mut [u8; 12320]) -> usize>(rt: &HostRuntime, name: &str, report: F)
+    requires callable { F.IsAlwaysCallable report }
+    requires fits { (text : _) (out : _) (n : ℕ) (after : _) → F.post report text out n after → n ≤ length after.now }
+{
+    let mut input = [0u8; INPUT_BYTES];
+    match read_input(&mut rt.stdin(), &mut input) {
+        Err(_) => {
+            let _ = eprintln!(rt; "{name}: standard input could not be read.");
+        }
+        Ok(n) => {
+            let mut out = [0u8; ANSWER_BYTES];
+            let k = report(&input[..n], &mut out);
+            if rt.write_all(&out[..k]).is_err() {
+                let _ = eprintln!(rt; "{name}: the answer could not be written.");
+            }
+        }
     }
 }

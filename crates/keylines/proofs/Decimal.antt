@@ -8,6 +8,8 @@ use native.Mathlib.Omega.{arith}
 use borrow.Author.Tests.{ltb-true, ltb-false, lt-ltb, le-ltb}
 use lib.Dec.{ltb}
 use lib.ListN.{length, length-append}
+use Rattle.std.specs.Fmt.{decimal as std_decimal}
+use Rattle.std.proofs.lemmas.Fmt.{decimal_by_steps}
 use Rattle.format.specs.Format.{choose, All}
 use Rattle.keylines.specs.Text.{digit, decimal_in, decimal}
 use Rattle.keylines.specs.DecimalLaws.{value_after, Digit, DecimalLaws}
@@ -56,11 +58,12 @@ unfolding Same
 decimal_more n h =
     every Same same_one same_more n (suc n) (omega arith) ∙ sym (same_more n (decimal (n / 10)) h (every Same same_one same_more (n / 10)) (suc n) (omega arith))
 
+-- what the kit writes of a number is its decimal form
+pub written_decimal : (n : ℕ) → n < 2 ^ 64 → std_decimal n ≡ decimal n
+written_decimal = decimal_by_steps (λ n s. s ≡ decimal n) (λ n h. sym (decimal_one n h)) (λ n s h e. ap (λ t. t ++ digit (n % 10)) e ∙ sym (decimal_more n h))
+
 last_length : (s : List ℕ) (d : ℕ) → length (s ++ digit d) ≡ length s + 1
 last_length s d = length-append s (digit d)
-
-pub decimal_longer : (n : ℕ) → 10 ≤ n → length (decimal n) ≡ length (decimal (n / 10)) + 1
-decimal_longer n h = ap length (decimal_more n h) ∙ last_length (decimal (n / 10)) (n % 10)
 
 -- ---- the laws
 

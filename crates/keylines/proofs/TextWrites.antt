@@ -5,7 +5,7 @@ use mathlib.Core.List.{List, [], ◌∷◌, ◌++◌, append_assoc, append-nil}
 use native.Mathlib.Numerals.{add-one}
 use native.Mathlib.Omega.{arith}
 use lib.ListN.{length, get_or, take, length-append}
-use lib.Seq.{take-suc, take_all}
+use lib.Seq.{take-suc}
 use Rattle.charset.specs.Bytes.{ascii}
 use Rattle.token.specs.Wrote.{Wrote}
 use Rattle.writer.proofs.Writes.{wrote_more, wrote_as}
@@ -31,6 +31,3 @@ entry_short e h = line_short (ascii "entry=") 5 e (omega arith) (omega arith)
 module _ {o p : List ℕ} {a r : ℕ} (es : List ℕ) (i : ℕ) (w : Wrote o p a r (entry_lines (take i es))) where
   pub entries_more : {q : List ℕ} {t : ℕ} → i < length es → Wrote p q r t (key_line (ascii "entry=") (get_or es i 0)) → Wrote o q a t (entry_lines (take (i + 1) es))
   entries_more h v = wrote_as (wrote_more w v) (sym (entries_last (take i es) (get_or es i 0)) ∙ ap entry_lines (rw add-one (sym (take-suc es i 0 h))))
-
-  pub entries_all : length es ≤ i → Wrote o p a r (entry_lines es)
-  entries_all h = wrote_as w (ap entry_lines (take_all i es h))

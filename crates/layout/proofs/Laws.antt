@@ -6,8 +6,7 @@ use lib.Ieee.{Float}
 use lib.ListN.{drop}
 use Rattle.format.specs.Format.{Pairwise}
 use Rattle.bounds.specs.Centre.{IsHalf}
-use Rattle.geometry.specs.declared.Bounds.{Bounds}
-use Rattle.geometry.specs.Geometry.{Exact}
+use Rattle.geometry.specs.Geometry.{Bounds, Exact}
 use Rattle.geometry.proofs.Laws.{geometry_laws}
 use Rattle.layout.specs.Layouts.{bounds_numbers, centre_left}
 use Rattle.layout.specs.LayoutLaws.{LayoutLaws}

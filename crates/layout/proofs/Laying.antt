@@ -1,17 +1,14 @@
--- Parts that were copied into an array are the whole answer.
+-- Parts that were copied into an array are the whole sign.
 use Prim.Native.Nat.{ℕ}
-use mathlib.Core.List.{List, [], ◌∷◌, ◌++◌, append_assoc}
+use mathlib.Core.List.{List, [], ◌++◌, append_assoc}
 use mathlib.Core.Path.{◌≡◌, refl, sym, ap, ◌∙◌}
-use mathlib.Core.Bool.{Bool, true, false, cond}
-use lib.ListN.{length, replicate}
+use lib.ListN.{length}
 use lib.Seq.{paste}
-use mir.Val.{bool_byte}
 use native.Mathlib.Omega.{arith}
 use Rattle.token.specs.Padded.{zeros}
 use Rattle.sign.specs.declared.Sign.{Sign}
 use Rattle.sign.specs.Inner.{Cleared}
-use Rattle.matching.specs.declared.Verdict.{Verdict}
-use Rattle.layout.specs.Layouts.{lead_numbers, sign_numbers, verdict_numbers}
+use Rattle.layout.specs.Layouts.{lead_numbers, sign_numbers}
 use Rattle.layout.proofs.Copies.{Filled, filled_none, filled_more, filled_all, filled_clear}
 
 in_order : (a b c d e f g : List ℕ) → (((((a ++ b) ++ c) ++ d) ++ e) ++ f) ++ g ≡ a ++ (b ++ (c ++ (d ++ (e ++ (f ++ g)))))
@@ -83,18 +80,3 @@ module _ (s : Sign) where
           let r = s.symbol_offsets in
           let fg = filled_more 325 261 325 f g (front ++ o) r prefix-filled (eg ∙ ap (paste f 261 r) (sym kr)) (omega arith) (omega arith) in
           filled_all 325 g ((front ++ o) ++ r) fg ∙ in_order (lead_numbers s) s.prefix s.codes s.xs s.ys o r
-
--- C's number of a bool
-pub as_number : (t : Bool) → bool_byte t ≡ cond t 1 0
-as_number true = refl
-as_number false = refl
-
--- a verdict: four numbers, then the witnesses
-pub whole_verdict : (v : Verdict) → length v.witnesses ≡ 32 → (e : List ℕ)
-    → e ≡ paste (v.number ∷ v.place ∷ bool_byte v.met ∷ v.unmet ∷ replicate 32 0) 4 v.witnesses (length v.witnesses)
-    → e ≡ verdict_numbers v
-whole_verdict v n e p =
-    let four = v.number ∷ v.place ∷ bool_byte v.met ∷ v.unmet ∷ [] in
-    filled_all 36 e (four ++ v.witnesses)
-    (filled_more 36 4 36 (four ++ replicate 32 0) e four v.witnesses (record { whole = refl; is = refl; rest = refl }) p (omega arith) (omega arith))
-    ∙ (λ i. v.number ∷ v.place ∷ as_number v.met i ∷ v.unmet ∷ v.witnesses)

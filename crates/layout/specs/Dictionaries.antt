@@ -2,9 +2,9 @@
 use Rattle.std.specs.Prelude.{ℕ, List, [], ◌∷◌, length}
 use Rattle.token.specs.Result.{Result, refusal, done}
 use Rattle.lines.specs.Lines.{line_of, line_start}
-use Rattle.narrowing.specs.declared.Narrowed.{Narrowed}
-use Rattle.searching.specs.declared.Searched.{Searched}
-use Rattle.sorting.specs.declared.Sorted.{Sorted}
+use Rattle.narrowing.specs.Narrowing.{Narrowed}
+use Rattle.searching.specs.Searching.{Searched}
+use Rattle.sorting.specs.Sorting.{Sorted}
 use Rattle.fetching.specs.Fetching.{Entry, in_first, in_second}
 
 abbrev pub searched_numbers : Searched → List ℕ

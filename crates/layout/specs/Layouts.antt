@@ -1,19 +1,22 @@
 -- How answers lie in lent numbers, in the order of the C header. The refusal number comes first; 0 is done.
-use Rattle.std.specs.Prelude.{ℕ, List, [], ◌∷◌, ◌++◌, Bool, true, false, cond, eqb, Float, get_or}
+use Rattle.std.specs.Prelude.{Result as Answer, Ok, Err, ℕ, ◌-◌, List, [], ◌∷◌, ◌++◌, Bool, true, false, cond, eqb, Float, get_or}
 use Rattle.format.specs.Format.{choose}
 use Rattle.charset.specs.declared.Charset.{Charset}
 use Rattle.charset.specs.declared.Charset.TheVariants.{Fsw, Swu}
-use Rattle.symbol.specs.declared.Code.{Code}
-use Rattle.token.specs.declared.Written.{Written}
+use Rattle.token.specs.declared.refusal.Refusal.{Refusal}
+use Rattle.token.specs.Refusal.{number_of, place_of}
+use Rattle.token.specs.Padded.{zeros}
+use Rattle.token.specs.Result.{Written}
+use Rattle.symbol.specs.Codes.{Code}
 use Rattle.sign.specs.declared.Sign.{Sign}
-use Rattle.sign.specs.declared.Reading.{Reading}
+use Rattle.sign.specs.Reading.{Reading}
 use Rattle.bounds.specs.declared.groups.Groups.{Groups}
 use Rattle.bounds.specs.Centre.{head, head_with_trunk, all, box_of}
-use Rattle.geometry.specs.declared.Bounds.{Bounds}
+use Rattle.geometry.specs.Geometry.{Bounds}
 use Rattle.querygrammar.specs.declared.Edition.{Edition}
 use Rattle.querygrammar.specs.declared.Edition.TheVariants.{First, Second}
-use Rattle.query.specs.declared.Reading.{Reading as QueryReading}
-use Rattle.matching.specs.declared.Verdict.{Verdict}
+use Rattle.query.specs.Reading.{Reading as QueryReading}
+use Rattle.matching.specs.Meets.{Verdict}
 
 -- C's bool for the character set
 abbrev pub set_of : Bool → Charset
@@ -27,6 +30,15 @@ edition_of true swu = Second (set_of swu)
 
 abbrev pub flag : Bool → ℕ
 flag b = cond b 1 0
+
+-- a refusal, in n numbers
+abbrev pub refused_numbers : ℕ → Refusal → List ℕ
+refused_numbers n e = number_of e ∷ place_of e ∷ zeros (n - 2)
+
+-- an answer without the numbers of its value
+abbrev pub told_numbers : {A : Type 0} → Answer A Refusal → List ℕ
+told_numbers (Ok a) = 0 ∷ 0 ∷ []
+told_numbers (Err e) = number_of e ∷ place_of e ∷ []
 
 abbrev pub code_numbers : Code → List ℕ
 code_numbers c = c.number ∷ c.place ∷ c.code ∷ []

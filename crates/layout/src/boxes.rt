@@ -1,38 +1,42 @@
 // The boxes of a sign and twice its centre as 19 numbers.
-ghost use Rattle.std.specs.Prelude.{◌≡◌};
-ghost use Rattle.layout.specs.Layouts.{bounds_numbers};
+ghost use Rattle.std.specs.Prelude.{◌≡◌, ◌<◌};
+ghost use Rattle.geometry.specs.Geometry.{as_bounds};
+ghost use Rattle.layout.specs.Layouts.{group_numbers, bounds_numbers};
 
-use bounds::groups::{ALL, HEAD, HEAD_WITH_TRUNK};
+use super::numbers::refused;
+use bounds::groups::{ALL, Groups, HEAD, HEAD_WITH_TRUNK};
 use geometry::Bounds;
+use token::refusal::Refusal;
+
+// Whether a group has a symbol, and its box.
+fn group_numbers(groups: Groups, group: usize) -> [u64; 5]
+    requires { group < 3 }
+    ensures { result ≡ group_numbers groups group }
+{
+    let b = groups.boxes[group];
+    [
+        u64::from(groups.present[group]),
+        u64::from(b.left),
+        u64::from(b.top),
+        u64::from(b.right),
+        u64::from(b.bottom),
+    ]
+}
 
 // Bounds in the order of halofret_boxes.
-pub fn bounds_numbers(b: Bounds) -> [u64; 19]
-    ensures { result ≡ bounds_numbers b }
+pub fn bounds_numbers(r: Result<Bounds, Refusal>) -> [u64; 19]
+    ensures { result ≡ bounds_numbers (as_bounds r) }
 {
-    let groups = b.groups;
-    let head = groups.boxes[HEAD];
-    let body = groups.boxes[HEAD_WITH_TRUNK];
-    let all = groups.boxes[ALL];
-    let doubled = b.doubled;
-    [
-        b.number as u64,
-        b.place as u64,
-        groups.present[HEAD] as u64,
-        head.left as u64,
-        head.top as u64,
-        head.right as u64,
-        head.bottom as u64,
-        groups.present[HEAD_WITH_TRUNK] as u64,
-        body.left as u64,
-        body.top as u64,
-        body.right as u64,
-        body.bottom as u64,
-        groups.present[ALL] as u64,
-        all.left as u64,
-        all.top as u64,
-        all.right as u64,
-        all.bottom as u64,
-        doubled.x as u64,
-        doubled.y as u64,
-    ]
+    match r {
+        Ok(b) => {
+            let mut all = [0u64; 19];
+            all[2..7].copy_from_slice(&group_numbers(b.groups, HEAD));
+            all[7..12].copy_from_slice(&group_numbers(b.groups, HEAD_WITH_TRUNK));
+            all[12..17].copy_from_slice(&group_numbers(b.groups, ALL));
+            all[17] = u64::from(b.doubled.x);
+            all[18] = u64::from(b.doubled.y);
+            all
+        }
+        Err(e) => refused(e),
+    }
 }

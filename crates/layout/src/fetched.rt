@@ -4,7 +4,6 @@ ghost use Rattle.lines.specs.Lines.{lines};
 ghost use Rattle.layout.specs.Dictionaries.{line_numbers};
 
 use lines::walk::{line_end, line_start};
-use token::refusal::DONE;
 
 // Where line k of a dictionary lies, which is the first or the second.
 pub fn line_numbers(which: u64, d: &[u8], k: usize) -> [u64; 4]
@@ -13,5 +12,6 @@ pub fn line_numbers(which: u64, d: &[u8], k: usize) -> [u64; 4]
 {
     let start = line_start(d, k);
     let end = line_end(d, start);
-    [DONE as u64, which, start as u64, (end - start) as u64]
+    // `as`, as for every usize of an answer
+    [0, which, start as u64, (end - start) as u64]
 }

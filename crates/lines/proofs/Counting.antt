@@ -8,7 +8,6 @@ use lib.ListN.{length, take, drop, get_or, drop_of_length-le, length-take}
 use lib.Seq.{drop-cons, drop-drop}
 use native.Mathlib.Omega.{arith}
 use native.Mathlib.Numerals.{add-one}
-use native.Mathlib.Nat.{add-zero, zero-add}
 use borrow.Author.Tests.{eq-eqb, ne_eqb}
 use Rattle.lines.specs.Lines.{byte_before, lines}
 
@@ -54,9 +53,6 @@ count_here d i k h e = rw (e, drop-cons d i 0 h, add-one i) (count_cons (get_or 
 count_none : (d : List ℕ) (i : ℕ) → length d ≤ i → count_of (drop i d) ≡ 0
 unfolding lines
 count_none d i h = rw (drop_of_length-le d h)
-
-pub count_start : (d : List ℕ) (i : ℕ) → count_of (drop i d) ≡ 0 + count_of (drop (i + 0) d)
-count_start d i = rw (add-zero i, zero-add)
 
 -- n lines were counted up to i, and t is the number that is right
 module _ (d : List ℕ) (i k n t : ℕ) (h : i < length d) (f : k ≡ i + 1) (e : t ≡ n + count_of (drop i d)) where

@@ -1,15 +1,15 @@
 -- The end of bytes, and the end of the first line.
 use Prim.Native.Nat.{ℕ, zero, suc, ◌+◌, ◌-◌, ◌≤◌, ◌<◌, min}
-use mathlib.Core.Path.{◌≡◌, refl, sym, ap, ◌∙◌}
+use mathlib.Core.Path.{◌≡◌, refl, ap}
 use mathlib.Core.List.{List, [], ◌∷◌}
-use mathlib.Core.Bool.{Bool, true, false, not}
+use mathlib.Core.Bool.{Bool, true, false}
 use mathlib.Core.Logic.{◌⊎◌, inl, inr, ⊎_elim}
 use lib.Dec.{eqb}
 use lib.ListN.{length, drop, get_or, drop_of_length-le}
 use lib.Seq.{drop-cons, drop-drop}
 use native.Mathlib.Omega.{arith}
 use native.Mathlib.Numerals.{add-one}
-use borrow.Author.Tests.{eq-eqb, ne_eqb, not-true, not-false}
+use borrow.Author.Tests.{eq-eqb, ne_eqb}
 use Rattle.format.specs.Format.{choose}
 use Rattle.lines.specs.Lines.{ended, first_line}
 
@@ -65,9 +65,6 @@ module _ (d : List ℕ) (at j first : ℕ) (l : at + j < length d) (h : j < 128)
       let next : at + (j + 1) ≡ at + j + 1 = omega arith in
       ⊎_elim (λ w. inl (omega arith, rw next (end_other d (at + j) _ w.1 l t))) (λ w. inr (omega arith, omega arith)) m
 
-pub met_end : (d : List ℕ) (at j first : ℕ) → j ≡ 128 → Met d at j first → first ≡ min 128 (length (first_line (drop at d)))
-met_end d at j first h m = ⊎_elim (λ w. omega (arith, w.1)) (λ w. omega arith) m
-
 first_past : (k : ℕ) (d : List ℕ) → k ≤ length (first_line d) → k + length (first_line (drop k d)) ≡ length (first_line d)
 unfolding first_line
 first_past zero d h = omega arith
@@ -81,16 +78,5 @@ first_past (suc k) (b ∷ d) h = go (eqb b 10) h (λ q. first_past k d q)
 
 -- from i on, the first byte 10 of a block was passed up to, or the whole block
 module _ (d : List ℕ) (i e passed : ℕ) (h : i + length (first_line (drop i d)) ≡ e) (f : passed ≡ min 128 (length (first_line (drop i d)))) where
-  pub end_here : passed < 128 → i + passed ≡ e
-  end_here l = omega arith
-
   pub end_past : i + passed + length (first_line (drop (i + passed) d)) ≡ e
   end_past = rw (← drop-drop passed i d) (omega (arith, first_past passed (drop i d) (omega arith)))
-
--- what `is_ended` tells
-module _ (d : List ℕ) (b : Bool) (e : b ≡ ended d) where
-  pub is_unended : not b ≡ true → ended d ≡ false
-  is_unended h = sym e ∙ not-true b h
-
-  pub is_whole : not b ≡ false → ended d ≡ true
-  is_whole h = sym e ∙ not-false b h

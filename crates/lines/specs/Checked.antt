@@ -1,8 +1,7 @@
 -- The check of a dictionary (document 01, "Refusal numbers"): 12, and then 14.
 use Rattle.std.specs.Prelude.{ℕ, List, Bool, length}
 use Rattle.token.specs.Refusal.{dictionary_unended, too_many}
-use Rattle.token.specs.Result.{Result, refusal, done, check}
-use Rattle.lines.specs.declared.checked.Counted.{Counted}
+use Rattle.token.specs.Result.{Result, done, check}
 use Rattle.lines.specs.Lines.{lines, ended, is_few}
 
 -- refused as 12 unless it is ended
@@ -19,8 +18,3 @@ checked_count whole n = check_ended whole (check_few n (done n))
 
 abbrev pub line_count : List ℕ → Result ℕ
 line_count dict = checked_count (ended dict) (length (lines dict))
-
--- how it is answered: both refusals have the place 0
-abbrev pub counted_as : Result ℕ → Counted
-counted_as (refusal number place) = record { number = number; lines = 0 }
-counted_as (done n) = record { number = 0; lines = n }

@@ -10,10 +10,7 @@ pub fn is_ended(d: &[u8]) -> bool
     ensures { result ≡ ended d.now }
 {
     let n = d.len();
-    if n == 0 {
-        return true;
-    }
-    d[n - 1] == 10
+    n == 0 || d[n - 1] == 10
 }
 
 // How many lines 64 bytes end. The compiler adds u8 counts for many bytes at a time.
@@ -22,12 +19,10 @@ fn count_block(d: &[u8], at: usize) -> u8
     ensures { result ≡ length (lines (take 64 (drop at d.now))) }
 {
     let mut n: u8 = 0;
-    let mut j: usize = 0;
-    while j < 64 {
+    for j in 0..64 {
         if d[at + j] == 10 {
             n += 1;
         }
-        j += 1;
     }
     n
 }
@@ -36,39 +31,29 @@ fn count_block(d: &[u8], at: usize) -> u8
 pub fn count(d: &[u8]) -> usize
     ensures { result ≡ length (lines d.now) }
 {
+    let blocks = d.len() / 64;
     let mut n: usize = 0;
-    let mut i: usize = 0;
-    while i < d.len() {
-        if 64 <= d.len() - i {
-            n += count_block(d, i) as usize;
-            i += 64;
-        } else {
-            if d[i] == 10 {
-                n += 1;
-            }
-            i += 1;
+    for k in 0..blocks {
+        n += usize::from(count_block(d, 64 * k));
+    }
+    for i in 64 * blocks..d.len() {
+        if d[i] == 10 {
+            n += 1;
         }
     }
     n
 }
 
 // Where among 128 bytes a line ends: the offset of their first byte 10, or 128. The loop runs to its end, so that the compiler
-// compares many bytes at a time.
+// compares many bytes at a time; `as`, since the offset is below 128.
 fn end_in_block(d: &[u8], at: usize) -> u8
     requires { at + 128 ≤ length d.now }
     ensures { result ≡ min 128 (length (first_line (drop at d.now))) }
 {
     let mut first: u8 = 128;
-    let mut j: usize = 0;
-    while j < 128 {
-        let mut ten: u8 = 128;
-        if d[at + j] == 10 {
-            ten = j as u8;
-        }
-        if ten < first {
-            first = ten;
-        }
-        j += 1;
+    for j in 0..128 {
+        let ten = if d[at + j] == 10 { j as u8 } else { 128 };
+        first = ten.min(first);
     }
     first
 }
@@ -79,9 +64,10 @@ pub fn line_end(d: &[u8], a: usize) -> usize
     ensures { result ≡ a + length (first_line (drop a d.now)) }
 {
     let mut e = a;
+    // a cursor that passes a block or a byte, until the bytes say that the line ends
     while e < d.len() {
         if 128 <= d.len() - e {
-            let passed = end_in_block(d, e) as usize;
+            let passed = usize::from(end_in_block(d, e));
             e += passed;
             if passed < 128 {
                 return e;
@@ -102,10 +88,8 @@ pub fn start_from(d: &[u8], j: usize, a: usize, k: usize) -> usize
     ensures { result ≡ line_start d.now k }
 {
     let mut at = a;
-    let mut i = j;
-    while i < k {
+    for _i in j..k {
         at = line_end(d, at) + 1;
-        i += 1;
     }
     at
 }

@@ -1,13 +1,13 @@
 -- Looking up a line: from its block's first line to it.
-use Prim.Native.Nat.{ℕ, zero, suc, ◌+◌, ◌-◌, ◌/◌, ◌≤◌, ◌<◌}
+use Prim.Native.Nat.{ℕ, zero, suc, ◌+◌, ◌-◌, ◌≤◌, ◌<◌}
 use mathlib.Core.Path.{◌≡◌, refl, sym, ◌∙◌}
 use mathlib.Core.List.{List}
 use native.Mathlib.Omega.{arith}
-use lib.ListN.{length, drop, get_or}
+use lib.ListN.{length, drop}
 use borrow.Author.Tests.{lt-ltb, le-ltb}
 use Rattle.lines.specs.Lines.{lines, line_start, first_line}
 use Rattle.lines.proofs.Starts.{line_at}
-use Rattle.linetable.specs.Table.{next_line, lines_on, first_of, start_from, Safe}
+use Rattle.linetable.specs.Table.{next_line, lines_on, first_of, start_from}
 
 on_none : (dict : List ℕ) (k a : ℕ) → k ≡ 0 → a ≡ lines_on dict k a
 unfolding lines_on
@@ -55,7 +55,3 @@ module _ (dict : List ℕ) (base offset e : ℕ) where
   pub start_far : 65535 ≤ offset → lines_on dict (e - first_of e) base ≡ start_from dict base offset e
   unfolding start_from
   start_far h = rw (le-ltb offset 65535 h)
-
-pub near_within : {dict bases offsets : List ℕ} → Safe dict bases offsets → (e : ℕ) → get_or offsets e 0 < 65535
-    → get_or bases (e / 32) 0 + get_or offsets e 0 ≤ length dict
-near_within {dict} {bases} {offsets} safe e h = omega (arith, safe.within e, start_near dict (get_or bases (e / 32) 0) (get_or offsets e 0) e h)

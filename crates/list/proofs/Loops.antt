@@ -30,17 +30,24 @@ module _ {list₀ list : List ℕ} {n e : ℕ} (c : Numbering list₀ n list e) 
     memory = ap (λ l. set l e (e + 1)) c.memory ∙ up_to_more list₀ e (omega arith);
   }
 
-  pub numbering_end : n ≤ e → list ≡ up_to n ++ drop n list₀
-  numbering_end h = let s : e ≡ n = omega arith in c.memory ∙ ap (λ m. up_to m ++ drop m list₀) s
-
--- one of the first n
+-- one of a list
 all_at : (P : ℕ → Type 0) (l : List ℕ) → All P l → (i : ℕ) → i < length l → P (get_or l i 0)
 all_at P [] a i h = absurd (omega arith)
 all_at P (e ∷ l) a zero h = a.0
 all_at P (e ∷ l) a (suc i) h = all_at P l a.1 i (omega arith)
 
-pub within : (P : ℕ → Type 0) (list : List ℕ) (n : ℕ) → n ≤ length list → All P (take n list) → (i : ℕ) → i < n → P (get_or list i 0)
+within : (P : ℕ → Type 0) (list : List ℕ) (n : ℕ) → n ≤ length list → All P (take n list) → (i : ℕ) → i < n → P (get_or list i 0)
 within P list n room a i h = rw (← get_or-take n list i 0 h) (all_at P (take n list) a i (omega (arith, length-take-le n list room)))
+
+-- one of the first n, that was read as r
+pub record InFront (list : List ℕ) (n i r : ℕ) : Type 0 where
+  pub below : i < n
+  pub is : r ≡ get_or list i 0
+
+pub in_front : (list : List ℕ) (n i r : ℕ) → n ≤ length list → i < length (take n list) → r ≡ get_or (take n list) i 0 → InFront list n i r
+in_front list n i r room h e =
+    let b : i < n = omega (arith, length-take-le n list room) in
+    record { below = b; is = e ∙ get_or-take n list i 0 b }
 
 module _ (test : ℕ → Bool) (list : List ℕ) (i : ℕ) (h : i < length list) where
   keep_one : test (get_or list i 0) ≡ true → keep test (take (i + 1) list) ≡ keep test (take i list) ++ (get_or list i 0 ∷ [])
@@ -62,14 +69,6 @@ unfolding keep
 compacting_start list n test = record { most = omega arith; least = omega arith; long = refl; count = refl; memory = sym (filled_none list) }
 
 module _ {list₀ : List ℕ} {test : ℕ → Bool} {list : List ℕ} {n k i : ℕ} (c : Compacting list₀ n test list k i) where
-  pub compacting_end : n ≤ i → record { value : k ≡ length (keep test (take n list₀)); list_after : list ≡ filled n (keep test (take n list₀)) (drop n list₀) }
-  compacting_end h =
-      let s : i ≡ n = omega arith in
-      record { value = c.count ∙ ap (λ m. length (keep test (take m list₀))) s; list_after = c.memory ∙ ap (λ m. filled m (keep test (take m list₀)) (drop m list₀)) s }
-
-  pub compacting_room : i < n → n ≤ length list₀ → (v : ℕ) → k < length (set list i v)
-  compacting_room h room v = omega (arith, c.least, c.long, length-set list i v)
-
   module _ (h : i < n) (room : n ≤ length list₀) where
     kept : List ℕ
     kept = keep test (take i list₀)

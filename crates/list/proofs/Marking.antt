@@ -1,20 +1,20 @@
 -- The loops over a list in any order: putting its entries into a set, none twice, and looking for one that a set has.
-use Prim.Native.Nat.{ℕ, ◌+◌, ◌-◌, ◌/◌, ◌%◌, ◌^◌, ◌≤◌, ◌<◌}
+use Prim.Native.Nat.{ℕ, zero, suc, ◌+◌, ◌-◌, ◌/◌, ◌%◌, ◌^◌, ◌≤◌, ◌<◌}
 use mathlib.Core.Path.{◌≡◌, refl, sym, ap, ◌∙◌}
 use mathlib.Core.List.{List, [], ◌∷◌, ◌++◌}
-use mathlib.Core.Bool.{Bool, true, false, ◌||◌, true≢false, or-true, or-false}
+use mathlib.Core.Bool.{Bool, true, false, ◌||◌, true≢false, or-true, or-false, not}
 use native.Mathlib.Numerals.{add-one}
 use native.Mathlib.Omega.{arith}
 use borrow.Author.Tests.{eqb-true, eqb-false}
 use lib.Dec.{eqb}
-use lib.ListN.{length, get_or, take, drop, set, length-set, length-take, drop_of_length-le, take-append-drop}
+use lib.ListN.{length, get_or, take, drop, set, length-set, drop_of_length-le, take-append-drop}
 use lib.Seq.{drop-cons, get_or-take, take-suc, take-take, length-take-le}
-use Rattle.format.specs.Format.{All}
-use Rattle.narrowing.specs.Narrowing.{has, distinct, listed, first_bad}
+use Rattle.format.specs.Format.{All, choose}
+use Rattle.std.specs.Prelude.{None, Some, unwrap_or}
+use Rattle.narrowing.specs.Narrowing.{has, distinct, listed, first_bad, some_entry}
 use Rattle.narrowing.proofs.Rising.{listed_short, listed_is, listed_valid}
 use Rattle.narrowing.proofs.Distinct.{distinct_end, has_none, has_more, distinct_at, distinct_more}
-use Rattle.list.specs.Bits.{byte_of, bit_of, EndsBefore, Marks, ListsApart}
-use Rattle.list.proofs.Loops.{within}
+use Rattle.list.specs.Bits.{byte_of, bit_of, EndsBefore, Marks, ListsApart, first_passing}
 use Rattle.list.proofs.Sets.{left_out, ends_later, added_in, added_still}
 
 -- the first n, where i of them are passed
@@ -127,34 +127,44 @@ module _ {list : List ℕ} {n count : ℕ} {before bits : List ℕ} {i : ℕ} (c
               marks = record { room = omega (arith, s, c.marks.room); is = marked };
             }
 
--- A LIST IS LOOKED THROUGH for an entry that fails a test: none of its first i does
-pub record Looking (test : ℕ → Bool) (list : List ℕ) (n i : ℕ) : Type 0 where
-  pub most : i ≤ n
-  pub same : first_bad test (take n list) ≡ first_bad test (drop i (take n list))
+-- A LIST IS LOOKED THROUGH for an entry that passes a test: none of its first i does
+pub record Looking (test : ℕ → Bool) (list : List ℕ) (i : ℕ) : Type 0 where
+  pub same : first_passing test list ≡ first_passing test (drop i list)
 
-pub looking_start : (test : ℕ → Bool) (list : List ℕ) (n : ℕ) → Looking test list n 0
-looking_start test list n = record { most = omega arith; same = refl }
+module _ {test : ℕ → Bool} {list : List ℕ} {i : ℕ} (c : Looking test list i) where
+  pub looking_end : length list ≤ i → None ≡ first_passing test list
+  unfolding first_passing
+  looking_end h = sym (c.same ∙ rw (drop_of_length-le list h))
 
-module _ {test : ℕ → Bool} {list : List ℕ} {n i : ℕ} (c : Looking test list n i) where
-  pub looking_end : n ≤ i → 0 ≡ first_bad test (take n list)
-  unfolding first_bad
-  looking_end h =
-      let l : length (take n list) ≤ i = omega (arith, length-take n list) in
-      sym (c.same ∙ rw (drop_of_length-le (take n list) l))
+  module _ (h : i < length list) where
+    turn : first_passing test list ≡ first_passing test (get_or list i 0 ∷ drop (i + 1) list)
+    turn = c.same ∙ rw (add-one, drop-cons list i 0 h)
 
-  module _ (room : n ≤ length list) (h : i < n) where
-    pub looking_inside : (P : ℕ → Type 0) → All P (take n list) → P (get_or list i 0)
-    looking_inside P a = within P list n room a i h
-
-    turn : first_bad test (take n list) ≡ first_bad test (get_or list i 0 ∷ drop (i + 1) (take n list))
-    turn =
-        let m : i < length (take n list) = omega (arith, length-take-le n list room) in
-        c.same ∙ rw (add-one, drop-cons (take n list) i 0 m, get_or-take n list i 0 h)
-
-    pub looking_here : test (get_or list i 0) ≡ false → get_or list i 0 ≡ first_bad test (take n list)
-    unfolding first_bad
+    pub looking_here : test (get_or list i 0) ≡ true → Some (get_or list i 0) ≡ first_passing test list
+    unfolding first_passing
     looking_here q = sym (turn ∙ rw q)
 
-    pub looking_more : test (get_or list i 0) ≡ true → Looking test list n (i + 1)
-    unfolding first_bad
-    looking_more q = record { most = omega arith; same = turn ∙ rw q }
+    pub looking_more : test (get_or list i 0) ≡ false → Looking test list (i + 1)
+    unfolding first_passing
+    looking_more q = record { same = turn ∙ rw q }
+
+-- the same of entries, of which 0 is none: the first that fails the opposite test
+pub passing_bad : (test : ℕ → Bool) (list : List ℕ) → unwrap_or (first_passing test list) 0 ≡ first_bad (λ e. not (test e)) list
+unfolding first_passing first_bad
+passing_bad test [] = refl
+passing_bad test (e ∷ list) = go (test e) (passing_bad test list)
+  where
+    go : (t : Bool) → unwrap_or (first_passing test list) 0 ≡ first_bad (λ e. not (test e)) list → unwrap_or (choose t (Some e) (first_passing test list)) 0 ≡ choose (not t) (first_bad (λ e. not (test e)) list) e
+    go true h = refl
+    go false h = h
+
+pub passing_entry : (test : ℕ → Bool) (list : List ℕ) → All (λ e. 0 < e) list → first_passing test list ≡ some_entry (first_bad (λ e. not (test e)) list)
+unfolding first_passing first_bad
+passing_entry test [] a = refl
+passing_entry test (zero ∷ list) a = absurd (omega (arith, a.0))
+passing_entry test (suc e ∷ list) a = go (test (suc e)) (passing_entry test list a.1)
+  where
+    go : (t : Bool) → first_passing test list ≡ some_entry (first_bad (λ e. not (test e)) list)
+        → choose t (Some (suc e)) (first_passing test list) ≡ some_entry (choose (not t) (first_bad (λ e. not (test e)) list) (suc e))
+    go true h = refl
+    go false h = h

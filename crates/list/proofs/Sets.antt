@@ -15,7 +15,7 @@ use Rattle.format.specs.Format.{All, keep}
 use Rattle.narrowing.specs.Narrowing.{entries_from, up_to, rising_over, rising, listed}
 use Rattle.format.proofs.Keeping.{keep_agree, keep_every}
 use Rattle.narrowing.proofs.Rising.{up_to_rising, rising_on, rising_low, rising_high, rising_end, rising_within, listed_short, listed_is}
-use Rattle.narrowing.proofs.Entries.{up_to_kept, up_to_left, Passed, passed_start, passed_in, passed_out, passed_room, passed_end}
+use Rattle.narrowing.proofs.Entries.{up_to_kept, up_to_left, Passed, passed_start, passed_in, passed_out, passed_room}
 use Rattle.format.proofs.Lists.{all_weaker, zeros_at}
 use Rattle.list.specs.Bits.{byte_of, bit_of, EndsBefore, Holds, Lists}
 use Rattle.list.proofs.Bytes.{left_here, added_here, added_other}
@@ -254,11 +254,6 @@ module _ {list₀ : List ℕ} {test : ℕ → Bool} {n : ℕ} {list : List ℕ} 
     long = c.long;
     memory = c.memory ∙ ap (λ l. l ++ drop k list₀) (sym (up_to_left test e t));
   }
-
-  pub writing_end : n ≤ e → list ≡ keep test (up_to n) ++ drop (length (keep test (up_to n))) list₀
-  writing_end h =
-      let s : e ≡ n = omega (arith, c.most) in
-      c.memory ∙ rw (passed_end c.counted n c.most h, s)
 
 -- EVERY ENTRY: bytes of eight bits set
 all_bits : (k : ℕ) → k < 8 → eqb (255 / 2 ^ k % 2) 1 ≡ true

@@ -1,6 +1,6 @@
 -- A set of entries in bytes, one bit for each: entry e is bit e % 8 of byte e / 8.
-use Rattle.std.specs.Prelude.{ℕ, ◌+◌, ◌/◌, ◌%◌, ◌^◌, ◌≤◌, ◌<◌, ◌≡◌, List, Bool, true, eqb, length, get_or}
-use Rattle.format.specs.Format.{keep}
+use Rattle.std.specs.Prelude.{ℕ, ◌+◌, ◌/◌, ◌%◌, ◌^◌, ◌≤◌, ◌<◌, ◌≡◌, List, [], ◌∷◌, Bool, true, eqb, length, get_or, Option, Some, None}
+use Rattle.format.specs.Format.{choose, keep}
 use Rattle.narrowing.specs.Narrowing.{up_to, has}
 
 abbrev pub byte_of : List ℕ → ℕ → ℕ
@@ -33,3 +33,8 @@ pub record Marks (count : ℕ) (entries bits : List ℕ) : Type 0 where
 pub record ListsApart (apart : Bool) (count : ℕ) (entries before after : List ℕ) : Type 0 where
   pub long : length after ≡ length before
   pub marks : apart ≡ true → Marks count entries after
+
+-- the first of a list that passes a test
+unfoldable pub first_passing : (ℕ → Bool) → List ℕ → Option ℕ
+first_passing test [] = None
+first_passing test (e ∷ l) = choose (test e) (Some e) (first_passing test l)

@@ -1,10 +1,12 @@
-// A set of entries in 1 to 65,535, one bit for each: entry e is bit e % 8 of byte e / 8.
-ghost use Rattle.std.specs.Prelude.{◌≡◌, ◌++◌, false, not, ◌+◌, ◌/◌, ◌%◌, ◌^◌, ◌≤◌, ◌<◌, length, get_or, take, drop, set as set_at};
+// A set of entries in 1 to 65,535 in lent bytes, one bit for each: entry e is bit e % 8 of byte e / 8.
+// No struct of 8,192 bytes: a caller may lend a set of any length, and a count of entries beside a longer list. That a set has no
+// entries is asked for by a clause, since it is no invariant: entries are then added.
+ghost use Rattle.std.specs.Prelude.{◌≡◌, ◌++◌, false, ◌+◌, ◌/◌, ◌%◌, ◌^◌, ◌≤◌, ◌<◌, length, get_or, take, drop, set as set_at};
 ghost use Rattle.format.specs.Format.{All, keep};
-ghost use Rattle.narrowing.specs.Narrowing.{up_to, rising, distinct, listed, first_bad, filled};
-ghost use Rattle.list.specs.Bits.{bit_of, EndsBefore, Lists, ListsApart};
+ghost use Rattle.narrowing.specs.Narrowing.{up_to, rising, distinct, listed, filled};
+ghost use Rattle.list.specs.Bits.{bit_of, EndsBefore, Lists, ListsApart, first_passing};
 
-// The bytes of a set, and one that has all eight entries.
+// The bytes of a set of any entries, and one that has all eight of its entries.
 pub const BYTES: usize = 8192;
 
 pub const ALL: u8 = 255;
@@ -36,19 +38,14 @@ pub fn add_rising(list: &[u16], n: usize, count: usize, bits: &mut [u8]) -> bool
         return false;
     }
     let mut last: usize = 0;
-    let mut i: usize = 0;
-    while i < n {
-        let e = list[i] as usize;
-        if e <= last {
-            return false;
-        }
+    for entry in &list[..n] {
+        let e = usize::from(*entry);
         let past = count < e;
-        if past {
+        if e <= last || past {
             return false;
         }
         add(bits, e);
         last = e;
-        i += 1;
     }
     true
 }
@@ -62,38 +59,29 @@ pub fn add_distinct(list: &[u16], n: usize, count: usize, bits: &mut [u8]) -> bo
     if list.len() < n {
         return false;
     }
-    let mut i: usize = 0;
-    while i < n {
-        let entry = list[i] as usize;
-        if entry == 0 {
+    for i in 0..n {
+        let e = usize::from(list[i]);
+        let zero = e == 0;
+        if zero || count < e || has(bits, e) {
             return false;
         }
-        if count < entry {
-            return false;
-        }
-        if has(bits, entry) {
-            return false;
-        }
-        add(bits, entry);
-        i += 1;
+        add(bits, e);
     }
     true
 }
 
-// The first of the first n entries that the set has, or 0.
-pub fn first_of(list: &[u16], n: usize, bits: &[u8]) -> usize
+// The first of the first n entries that the set has.
+pub fn first_of(list: &[u16], n: usize, bits: &[u8]) -> Option<usize>
     requires { (n ≤ length list.now) × All (λ e. e / 8 < length bits.now) (take n list.now) }
-    ensures { result ≡ first_bad (λ e. not (bit_of bits.now e)) (take n list.now) }
+    ensures { result ≡ first_passing (bit_of bits.now) (take n list.now) }
 {
-    let mut i: usize = 0;
-    while i < n {
-        let e = list[i] as usize;
+    for entry in &list[..n] {
+        let e = usize::from(*entry);
         if has(bits, e) {
-            return e;
+            return Some(e);
         }
-        i += 1;
     }
-    0
+    None
 }
 
 // Writes those of entries 1 to n that the set has in front.
@@ -102,32 +90,30 @@ pub fn write_entries(list: &mut [u16], bits: &[u8], n: usize)
     ensures { list.new ≡ keep (bit_of bits.now) (up_to n) ++ drop (length (keep (bit_of bits.now) (up_to n))) list.old }
 {
     let mut k: usize = 0;
-    let mut e: usize = 0;
-    while e < n {
+    for e in 0..n {
         if has(bits, e + 1) {
+            // `as`: at most n
             list[k] = (e + 1) as u16;
             k += 1;
         }
-        e += 1;
     }
 }
 
-// Keeps those of the first n entries that the set has, in order, with zeros after them up to n; returns their number.
+// Keeps those of the first n entries that the set has, in order, with zeros after them up to n; returns their number. The list is written
+// while it is read, so that no iterator can hold it.
 pub fn compact(list: &mut [u16], n: usize, bits: &[u8]) -> usize
     requires { (n ≤ length list.old) × All (λ e. e / 8 < length bits.now) (take n list.old) }
     ensures value { result ≡ length (keep (bit_of bits.now) (take n list.old)) }
     ensures list_after { list.new ≡ filled n (keep (bit_of bits.now) (take n list.old)) (drop n list.old) }
 {
     let mut k: usize = 0;
-    let mut i: usize = 0;
-    while i < n {
+    for i in 0..n {
         let entry = list[i];
         list[i] = 0;
-        if has(bits, entry as usize) {
+        if has(bits, usize::from(entry)) {
             list[k] = entry;
             k += 1;
         }
-        i += 1;
     }
     k
 }

@@ -1,20 +1,21 @@
 -- Loops over the first places of arrays: the first that passes, items one by one, and the witnesses.
+use Rattle.std.specs.Prelude.{None, Some}
 use Prim.Native.Nat.{ℕ, zero, suc, ◌+◌, ◌≤◌, ◌<◌}
 use mathlib.Core.Path.{◌≡◌, refl, sym, ap, ◌∙◌}
-use mathlib.Core.List.{List, [], ◌∷◌, map}
+use mathlib.Core.List.{List, [], ◌∷◌, map, map-append}
 use mathlib.Core.Bool.{Bool, true, false, ◌&&◌}
 use mathlib.Core.Logic.{⊎_elim}
-use lib.ListN.{length, get_or, set}
+use lib.ListN.{length, length-map, get_or, set}
 use native.Mathlib.Omega.{arith}
 use native.Mathlib.Nat.{eq-or-lt_of_le}
 use native.Mathlib.Numerals.{add-one}
 use borrow.Author.Tests.{eq-eqb, ne_eqb}
 use Rattle.token.specs.Padded.{padded, zeros}
-use Rattle.token.proofs.PaddedLists.{padded_none}
+use Rattle.token.proofs.PaddedLists.{padded_none, padded_put}
 use Rattle.writer.specs.Arrays.{upto}
-use Rattle.reader.proofs.Filling.{put_more}
 use Rattle.writer.proofs.Upto.{upto_length, upto_at, map_upto}
 use Rattle.matching.specs.Meets.{begins_by, first_from, unmet, met, missing, judged}
+use Rattle.matching.specs.Inner.{counted}
 
 -- a test answers b at every place before i
 abbrev pub Passed : (ℕ → Bool) → Bool → ℕ → Type 0
@@ -57,6 +58,12 @@ module _ {A : Type 0} (test : A → Bool) (g : ℕ → A) (n i : ℕ) (p : Passe
       let l = upto_length g n in
       first_absent test (g 0) (upto g n) 1 (λ j q. ap test (upto_at g n j (g 0) (omega arith)) ∙ p j (omega arith))
 
+  pub number_found : i < n → test (g i) ≡ true → Some (i + 1) ≡ counted (first_from 1 test (upto g n))
+  number_found h e = rw (← first_found h e, add-one) refl
+
+  pub number_none : n ≤ i → None ≡ counted (first_from 1 test (upto g n))
+  number_none h = ap counted (first_none h)
+
 -- ITEMS ONE BY ONE
 
 and_false : (t u : Bool) → false ≡ u → false ≡ t && u
@@ -82,27 +89,24 @@ module _ {A : Type 0} (test : A → ℕ → Bool) (d : A) where
       let e : test a c ≡ true = p zero (omega arith) in
       rw e (begins_all l codes (omega arith) (λ j q. p (suc j) (omega arith)))
 
-module _ {A : Type 0} (test : A → ℕ → Bool) (g : ℕ → A) (at : ℕ → ℕ) (m n : ℕ) where
-  here : (j : ℕ) → j < m → j < n → test (get_or (upto g m) j (g 0)) (get_or (upto at n) j 0) ≡ test (g j) (at j)
-  here j h k = λ i. test (upto_at g m j (g 0) h i) (upto_at at n j 0 k i)
+module _ {A : Type 0} (test : A → ℕ → Bool) (g : ℕ → A) (codes : List ℕ) (m : ℕ) where
+  here : (j : ℕ) → j < m → test (get_or (upto g m) j (g 0)) (get_or codes j 0) ≡ test (g j) (get_or codes j 0)
+  here j h = ap (λ a. test a (get_or codes j 0)) (upto_at g m j (g 0) h)
 
-  pub match_short : n < m → false ≡ begins_by test (upto g m) (upto at n)
+  pub match_short : length codes < m → false ≡ begins_by test (upto g m) codes
   match_short h =
       let a = upto_length g m in
-      let b = upto_length at n in
-      begins_short test (g 0) (upto g m) (upto at n) (omega arith)
+      begins_short test (g 0) (upto g m) codes (omega arith)
 
-  pub match_not : m ≤ n → (j : ℕ) → j < m → test (g j) (at j) ≡ false → false ≡ begins_by test (upto g m) (upto at n)
+  pub match_not : m ≤ length codes → (j : ℕ) → j < m → test (g j) (get_or codes j 0) ≡ false → false ≡ begins_by test (upto g m) codes
   match_not k j h e =
       let a = upto_length g m in
-      let b = upto_length at n in
-      begins_not test (g 0) (upto g m) (upto at n) j (omega arith) (omega arith) (here j h (omega arith) ∙ e)
+      begins_not test (g 0) (upto g m) codes j (omega arith) (omega arith) (here j h ∙ e)
 
-  pub match_all : m ≤ n → (j : ℕ) → m ≤ j → Passed (λ i. test (g i) (at i)) true j → true ≡ begins_by test (upto g m) (upto at n)
+  pub match_all : m ≤ length codes → (j : ℕ) → m ≤ j → Passed (λ i. test (g i) (get_or codes i 0)) true j → true ≡ begins_by test (upto g m) codes
   match_all k j h p =
       let a = upto_length g m in
-      let b = upto_length at n in
-      begins_all test (g 0) (upto g m) (upto at n) (omega arith) (λ i q. here i (omega arith) (omega arith) ∙ p i (omega arith))
+      begins_all test (g 0) (upto g m) codes (omega arith) (λ i q. here i (omega arith) ∙ p i (omega arith))
 
 -- THE WITNESSES
 
@@ -122,7 +126,11 @@ module _ {A : Type 0} (witness : A → ℕ) (g : ℕ → A) (n : ℕ) where
     unfolding upto
     judging_on h w e z = record {
       most = omega arith;
-      held = rw add-one (put_more 32 witness (upto g j) (g j) j out (set out j w) s.held (sym (upto_length g j)) (ap (set out j) e));
+      held = rw add-one (
+          (λ i. set (s.held i) (sym (length-map (upto g j) witness ∙ upto_length g j) i) (e i))
+          ∙ padded_put 32 (map witness (upto g j)) (witness (g j))
+          ∙ ap (padded 32) (sym (map-append witness (upto g j) (g j ∷ [])))
+          );
       passed = passed_more (λ i. missing (witness (g i))) false j s.passed (ne_eqb (witness (g j)) 0 (λ y. z (e ∙ y)));
     }
 

@@ -1,7 +1,7 @@
 -- A query that lies in words, a sign that lies in arrays, and what the functions that judge them answer.
-use Rattle.std.specs.Prelude.{ℕ, zero, suc, ◌+◌, ◌*◌, ◌%◌, ◌≤◌, ◌<◌, ◌≡◌, List, map, Bool, false, ◌&&◌, ◌||◌, leb, ltb, eqb, length, get_or}
+use Rattle.std.specs.Prelude.{Option, None, Some, ℕ, zero, suc, ◌+◌, ◌*◌, ◌%◌, ◌≤◌, ◌<◌, ◌≡◌, List, map, Bool, false, ◌&&◌, ◌||◌, leb, ltb, eqb, length, get_or}
 use Rattle.format.specs.Format.{choose}
-use Rattle.grammar.specs.Sign.{Spatial}
+use Rattle.grammar.specs.Sign.{Spatial, Meaning}
 use Rattle.writer.specs.Arrays.{upto}
 use Rattle.querygrammar.specs.Query.{present, kind_of}
 use Rattle.matching.specs.Meets.{begins_by, within, first_from, Judgement, unmet, judged}
@@ -53,17 +53,22 @@ pub record Laid (words : List ℕ) : Type 0 where
 
 -- THE CONDITIONS
 
--- the offset after the first m rows where the codes fit them one by one, otherwise 0
-unfoldable pub after_rows : List ℕ → ℕ → List ℕ → ℕ
-after_rows words m codes = choose (begins_by (fits_at words) (upto (offset words) m) codes) (offset words m) 0
+-- the offset after the first m rows where the codes fit them one by one
+unfoldable pub after_rows : List ℕ → ℕ → List ℕ → Option ℕ
+after_rows words m codes = choose (begins_by (fits_at words) (upto (offset words) m) codes) (Some (offset words m)) None
 
 -- condition 0
 unfoldable pub prefix_words : List ℕ → List ℕ → Bool
 prefix_words words codes =
     choose (eqb (word words 0) (kind_of present)) (ltb 0 (length codes)) (begins_by (fits_at words) (upto (offset words) (word words 1)) codes)
 
-unfoldable pub after_prefix : List ℕ → List ℕ → ℕ
-after_prefix words codes = choose (prefix_words words codes) (offset words (word words 1)) 0
+unfoldable pub after_prefix : List ℕ → List ℕ → Option ℕ
+after_prefix words codes = choose (prefix_words words codes) (Some (offset words (word words 1))) None
+
+-- a number counted from 1, where there is one
+abbrev pub counted : ℕ → Option ℕ
+counted zero = None
+counted (suc i) = Some (suc i)
 
 -- the other conditions
 unfoldable pub judged_words : List ℕ → List Spatial → Judgement
@@ -72,3 +77,6 @@ judged_words words symbols =
 
 unfoldable pub verdict_words : List ℕ → List ℕ → List Spatial → Judgement
 verdict_words words codes symbols = choose (prefix_words words codes) (judged_words words symbols) (unmet 0)
+
+abbrev pub verdict_in_words : List ℕ → Meaning → Judgement
+verdict_in_words words m = verdict_words words m.prefix m.symbols

@@ -1,13 +1,16 @@
 -- Document 01, "A query", and document 02, Q-9: when a sign meets a query, and the verdict with its witnesses.
-use Rattle.std.specs.Prelude.{ℕ, zero, suc, ◌+◌, ◌/◌, ◌%◌, ◌≤◌, ◌≡◌, List, [], ◌∷◌, map, Bool, true, false, not, ◌&&◌, ◌||◌, ◌⊎◌, leb, eqb}
+use Rattle.std.specs.Prelude.{Result as Answer, Ok, Err, ℕ, zero, suc, ◌+◌, ◌/◌, ◌%◌, ◌≤◌, ◌≡◌, List, [], ◌∷◌, map, Bool, true, false, not, ◌&&◌, ◌||◌, ◌⊎◌, leb, eqb}
 use Rattle.std.proofs.Math.Option.{Option, none, some}
 use Rattle.format.specs.Format.{choose}
 use Rattle.charset.specs.Tokens.{parts_of}
 use Rattle.grammar.specs.Sign.{Spatial, Meaning}
+use Rattle.token.specs.declared.refusal.Refusal.{Refusal}
+use Rattle.token.specs.Refusal.{number_of, place_of}
 use Rattle.token.specs.Padded.{padded, zeros}
 use Rattle.querygrammar.specs.Spelling.{Item, key_item, range_item, null_item}
 use Rattle.querygrammar.specs.Query.{Prefix, free, present, begins, Sought, Query}
-use Rattle.matching.specs.declared.Verdict.{Verdict}
+use Rattle.matching.specs.declared.Verdict.{Verdict as Told}
+use Rattle.matching.specs.declared.Verdict.TheVariants.{Met, Unmet}
 
 -- AN ITEM AND A SYMBOL
 
@@ -146,7 +149,25 @@ abbrev pub is_met : Judgement → Bool
 is_met (unmet n) = false
 is_met (met witnesses) = true
 
--- as it is returned: unused witness places are 0, and all are 0 when a condition is unmet
+-- as it is returned: unused witness places are 0
+abbrev pub told : Judgement → Told
+told (unmet n) = Unmet n
+told (met witnesses) = Met (padded 32 witnesses)
+
+-- the verdict as numbers; all witness places are 0 when a condition is unmet
+pub record Verdict : Type 0 where
+  pub number : ℕ
+  pub place : ℕ
+  pub met : Bool
+  pub unmet : ℕ
+  pub witnesses : List ℕ
+
 abbrev pub answered : Judgement → Verdict
 answered (unmet n) = record { number = 0; place = 0; met = false; unmet = n; witnesses = zeros 32 }
 answered (met witnesses) = record { number = 0; place = 0; met = true; unmet = 0; witnesses = padded 32 witnesses }
+
+-- and by what a function answers: not met, and zeros but for number and place, where it refuses
+abbrev pub as_verdict : Answer Told Refusal → Verdict
+as_verdict (Ok (Unmet n)) = record { number = 0; place = 0; met = false; unmet = n; witnesses = zeros 32 }
+as_verdict (Ok (Met witnesses)) = record { number = 0; place = 0; met = true; unmet = 0; witnesses = witnesses }
+as_verdict (Err e) = record { number = number_of e; place = place_of e; met = false; unmet = 0; witnesses = zeros 32 }

@@ -1,21 +1,31 @@
 -- The numbers of an axis in an array, moved one by one.
 use Prim.Native.Nat.{ℕ, zero, suc, ◌+◌, ◌≤◌, ◌<◌}
-use mathlib.Core.Path.{◌≡◌, refl, sym, ap, ◌∙◌}
-use mathlib.Core.Bool.{◌&&◌, not, false, and-true, and-false}
+use mathlib.Core.Path.{◌≡◌, refl, ap, ◌∙◌}
+use mathlib.Core.Bool.{Bool, ◌&&◌, true, false}
 use mathlib.Core.List.{List, [], ◌∷◌}
 use native.Mathlib.Numerals.{add-one}
 use native.Mathlib.Omega.{arith}
-use borrow.Author.Tests.{eq-eqb, ne_eqb}
-use lib.Dec.{eqb}
 use lib.IntN.{ℤ}
 use lib.ListN.{length, get_or, set}
+use Rattle.std.specs.Prelude.{Ok, Err}
 use Rattle.format.specs.Format.{every}
-use Rattle.format.proofs.Lists.{every_snoc}
+use Rattle.format.proofs.Lists.{every_snoc, every_all}
+use Rattle.token.specs.declared.refusal.Refusal.{Refusal}
+use Rattle.token.specs.declared.refusal.Refusal.TheVariants.{NumberOutside}
 use Rattle.writer.specs.Arrays.{upto, at}
+use Rattle.writer.proofs.Upto.{all_upto}
 use Rattle.bounds.proofs.Grouping.{upto_more}
 use Rattle.moving.specs.Moves.{stays}
-use Rattle.moving.specs.Inner.{moved_or_zero, map_first}
-use Rattle.moving.proofs.Numbers.{stays_test}
+use Rattle.moving.specs.Inner.{or_outside, map_first, moved_axis}
+
+-- what is answered says how the test went
+pub was_inside : {A : Type 0} (test : Bool) (a b : A) → or_outside test a ≡ Ok b → (test ≡ true) × (a ≡ b)
+was_inside true a b e = (refl, cc)
+was_inside false a b e = cc
+
+pub was_outside : {A : Type 0} (test : Bool) (a : A) (r : Refusal) → or_outside test a ≡ Err r → (test ≡ false) × (r ≡ NumberOutside)
+was_outside true a r e = cc
+was_outside false a r e = (refl, cc)
 
 map_suc : (f : ℕ → ℕ) (i : ℕ) (l : List ℕ) → set (map_first f i l) i (f (get_or l i 0)) ≡ map_first f (suc i) l
 unfolding map_first
@@ -38,29 +48,26 @@ map_at f (suc n) [] i h k = absurd (omega arith)
 map_at f (suc n) (a ∷ l) zero h k = refl
 map_at f (suc n) (a ∷ l) (suc i) h k = map_at f n l i (omega arith) (omega arith)
 
-pub map_length : (f : ℕ → ℕ) (n : ℕ) (l : List ℕ) → length (map_first f n l) ≡ length l
-unfolding map_first
-map_length f zero l = refl
-map_length f (suc n) [] = refl
-map_length f (suc n) (a ∷ l) = ap suc (map_length f n l)
+-- an axis of which a number leaves
+module _ (by : ℤ) (most : ℕ) (values : List ℕ) where
+  leaves_if : (n : ℕ) → every (stays by) (most ∷ upto (at values) n) ≡ false → moved_axis by most n values ≡ Err NumberOutside
+  leaves_if n e = rw e
 
-pub all_one : (by : ℤ) (most : ℕ) (values : List ℕ) → not (eqb (moved_or_zero by most) 0) ≡ every (stays by) (most ∷ upto (at values) 0)
-unfolding upto
-all_one by most values = stays_test by most ∙ sym (and-true (stays by most))
+  pub one_leaves : (n i : ℕ) → i < n → stays by (at values i) ≡ false → moved_axis by most n values ≡ Err NumberOutside
+  one_leaves n i h e = leaves_if n (go (every (stays by) (most ∷ upto (at values) n)) refl)
+    where
+      go : (t : Bool) → every (stays by) (most ∷ upto (at values) n) ≡ t → t ≡ false
+      go false k = refl
+      go true k =
+          let all = every_all (stays by) (most ∷ upto (at values) n) k in
+          let one : stays by (at values i) ≡ true = all_upto (λ v. stays by v ≡ true) (at values) n all.1 i h in
+          cc
 
--- one number more, which leaves or stays
-module _ (by : ℤ) (most i : ℕ) (values : List ℕ) where
-  step : every (stays by) (most ∷ upto (at values) (i + 1)) ≡ every (stays by) (most ∷ upto (at values) i) && stays by (at values i)
-  step = ap (λ l. every (stays by) (most ∷ l)) (upto_more (at values) i) ∙ every_snoc (stays by) (most ∷ upto (at values) i) (at values i)
+  -- an axis whose numbers stay, so far
+  pub none_left : stays by most ≡ true → every (stays by) (most ∷ upto (at values) 0) ≡ true
+  unfolding upto
+  none_left e = rw e
 
-  pub all_leaves : moved_or_zero by (at values i) ≡ 0 → every (stays by) (most ∷ upto (at values) (i + 1)) ≡ false
-  all_leaves e =
-      step
-      ∙ ap (λ t. every (stays by) (most ∷ upto (at values) i) && t) (sym (stays_test by (at values i)) ∙ ap not (eq-eqb (moved_or_zero by (at values i)) 0 e))
-      ∙ and-false (every (stays by) (most ∷ upto (at values) i))
-
-  pub all_stays : (moved_or_zero by (at values i) ≡ 0 → ⊥) → every (stays by) (most ∷ upto (at values) (i + 1)) ≡ every (stays by) (most ∷ upto (at values) i)
-  all_stays e =
-      step
-      ∙ ap (λ t. every (stays by) (most ∷ upto (at values) i) && t) (sym (stays_test by (at values i)) ∙ ap not (ne_eqb (moved_or_zero by (at values i)) 0 e))
-      ∙ and-true (every (stays by) (most ∷ upto (at values) i))
+  pub one_stays : (i : ℕ) → every (stays by) (most ∷ upto (at values) i) ≡ true → stays by (at values i) ≡ true → every (stays by) (most ∷ upto (at values) (i + 1)) ≡ true
+  one_stays i h k =
+      ap (λ l. every (stays by) (most ∷ l)) (upto_more (at values) i) ∙ every_snoc (stays by) (most ∷ upto (at values) i) (at values i) ∙ (λ j. h j && k j)

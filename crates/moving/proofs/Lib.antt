@@ -1,4 +1,3 @@
-pub mod Signed
 pub mod Numbers
 pub mod Axes
 pub mod Signs

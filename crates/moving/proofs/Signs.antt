@@ -1,7 +1,7 @@
--- A sign in arrays, and the sign that moving their numbers makes of it.
+-- A sign in memory, and the sign that moving its numbers makes of it.
 use Prim.Native.Nat.{ℕ, zero, suc, ◌≤◌, ◌<◌}
 use mathlib.Core.Path.{◌≡◌, refl, sym, ap, ◌∙◌}
-use mathlib.Core.Bool.{Bool, true, false, ◌&&◌, false≢true}
+use mathlib.Core.Bool.{Bool, true, false, and-eq-true_iff}
 use mathlib.Core.List.{List, [], ◌∷◌, ◌++◌, map}
 use native.Mathlib.Omega.{arith}
 use lib.IntN.{ℤ}
@@ -10,22 +10,20 @@ use Rattle.format.specs.Format.{All, every}
 use Rattle.format.proofs.Lists.{all_weaker}
 use Rattle.format.specs.Numeral.{Range}
 use Rattle.charset.specs.Tokens.{last_code, last_writing}
+use Rattle.grammar.specs.declared.Head.{Head}
+use Rattle.grammar.specs.declared.Symbols.{Symbols}
 use Rattle.grammar.specs.Sign.{Spatial, Meaning, Valid, ValidSymbol}
 use Rattle.token.specs.Refusal.{number_outside}
 use Rattle.token.specs.Result.{refusal, done}
 use Rattle.writer.specs.Arrays.{upto, at, symbol_at, meaning_in}
 use Rattle.writer.proofs.Upto.{map_upto}
-use Rattle.moving.specs.Moves.{stays, xs_of, ys_of, moved_symbol, moved_meaning, moved_sign}
-use Rattle.moving.specs.Inner.{moved_or_zero, map_first, Coded}
-use Rattle.moving.proofs.Numbers.{stays_number, stays_moved}
+use Rattle.moving.specs.Moves.{moved_number, stays, xs_of, ys_of, moved_symbol, moved_meaning, moved_sign}
+use Rattle.moving.specs.Inner.{map_first, Coded}
+use Rattle.moving.proofs.Numbers.{stays_number}
 use Rattle.moving.proofs.Axes.{map_at}
 
 pub all_first : {A : Type 0} (p : A → Bool) (a : A) (l : List A) → every p (a ∷ l) ≡ true → (p a ≡ true) × (every p l ≡ true)
-all_first p a l e = go (p a) e
-  where
-    go : (t : Bool) → t && every p l ≡ true → (t ≡ true) × (every p l ≡ true)
-    go true e = (refl, e)
-    go false e = absurd (false≢true e)
+all_first p a l e = (and-eq-true_iff (p a) (every p l)).0 e
 
 -- the sign moves where all its numbers stay, and is refused where one of either axis leaves
 module _ (dx dy : ℤ) (m : Meaning) where
@@ -70,48 +68,51 @@ module _ (dx dy : ℤ) where
         symbols = symbols_valid m.symbols p.1 q.1 c.codes;
       }
 
-  -- as the code moves a symbol
-  abbrev or_zero : Spatial → Spatial
-  or_zero s = record { code = s.code; x = moved_or_zero dx s.x; y = moved_or_zero dy s.y }
-
-  symbols_moved : (l : List Spatial) → every (stays dx) (map (λ s. s.x) l) ≡ true → every (stays dy) (map (λ s. s.y) l) ≡ true
-      → map or_zero l ≡ map (moved_symbol dx dy) l
-  symbols_moved [] h k = refl
-  symbols_moved (s ∷ l) h k =
-      let p = all_first (stays dx) s.x (map (λ s. s.x) l) h in
-      let q = all_first (stays dy) s.y (map (λ s. s.y) l) k in
-      λ i. record { code = s.code; x = stays_moved dx s.x p.0 i; y = stays_moved dy s.y q.0 i } ∷ symbols_moved l p.1 q.1 i
-
 upto_same : {A : Type 0} (f g : ℕ → A) (n : ℕ) → ((i : ℕ) → i < n → f i ≡ g i) → upto f n ≡ upto g n
 unfolding upto
 upto_same f g zero same = refl
 upto_same f g (suc n) same = λ j. upto_same f g n (λ i h. same i (omega arith)) j ++ (same n (omega arith) j ∷ [])
 
--- a sign in arrays, whose numbers are tested and moved there
-module _ (dx dy : ℤ) (marker right bottom p n : ℕ) (prefix codes xs ys : List ℕ) where
+-- a sign in memory, whose numbers are tested and moved there
+module _ (dx dy : ℤ) (head : Head) (symbols : Symbols) where
   abbrev pub before : Meaning
-  before = meaning_in marker right bottom p n prefix codes xs ys
+  before = meaning_in head symbols
 
-  pub axis_x : (right ∷ upto (at xs) n) ≡ xs_of (meaning_in marker right bottom p n prefix codes xs ys)
-  axis_x = ap (λ l. right ∷ l) (sym (map_upto (λ s. s.x) (symbol_at codes xs ys) n))
+  pub axis_x : (head.max_x ∷ upto (at symbols.xs) head.symbol_count) ≡ xs_of (meaning_in head symbols)
+  axis_x = ap (λ l. head.max_x ∷ l) (sym (map_upto (λ s. s.x) (symbol_at symbols) head.symbol_count))
 
-  pub axis_y : (bottom ∷ upto (at ys) n) ≡ ys_of (meaning_in marker right bottom p n prefix codes xs ys)
-  axis_y = ap (λ l. bottom ∷ l) (sym (map_upto (λ s. s.y) (symbol_at codes xs ys) n))
+  pub axis_y : (head.max_y ∷ upto (at symbols.ys) head.symbol_count) ≡ ys_of (meaning_in head symbols)
+  axis_y = ap (λ l. head.max_y ∷ l) (sym (map_upto (λ s. s.y) (symbol_at symbols) head.symbol_count))
 
-  pub arrays_moved : n ≤ length xs → n ≤ length ys → every (stays dx) (xs_of before) ≡ true → every (stays dy) (ys_of before) ≡ true
-      → meaning_in marker (moved_or_zero dx right) (moved_or_zero dy bottom) p n prefix codes (map_first (moved_or_zero dx) n xs) (map_first (moved_or_zero dy) n ys)
-      ≡ moved_meaning dx dy before
-  arrays_moved hx hy h k =
-      let a = all_first (stays dx) right (map (λ s. s.x) before.symbols) h in
-      let b = all_first (stays dy) bottom (map (λ s. s.y) before.symbols) k in
-      let each : upto (symbol_at codes (map_first (moved_or_zero dx) n xs) (map_first (moved_or_zero dy) n ys)) n ≡ upto (λ i. or_zero dx dy (symbol_at codes xs ys i)) n =
-      upto_same (symbol_at codes (map_first (moved_or_zero dx) n xs) (map_first (moved_or_zero dy) n ys)) (λ i. or_zero dx dy (symbol_at codes xs ys i)) n (λ i l j.
-      record { code = at codes i; x = map_at (moved_or_zero dx) n xs i l hx j; y = map_at (moved_or_zero dy) n ys i l hy j }) in
-      let symbols = each ∙ sym (map_upto (or_zero dx dy) (symbol_at codes xs ys) n) ∙ symbols_moved dx dy before.symbols a.1 b.1 in
+  abbrev pub moved_head : Head
+  moved_head = record {
+    marker = head.marker;
+    max_x = moved_number dx head.max_x;
+    max_y = moved_number dy head.max_y;
+    prefix_count = head.prefix_count;
+    symbol_count = head.symbol_count;
+  }
+
+  abbrev pub moved_symbols : Symbols
+  moved_symbols = record {
+    prefix = symbols.prefix;
+    codes = symbols.codes;
+    xs = map_first (moved_number dx) head.symbol_count symbols.xs;
+    ys = map_first (moved_number dy) head.symbol_count symbols.ys;
+  }
+
+  pub memory_moved : head.symbol_count ≤ length symbols.xs → head.symbol_count ≤ length symbols.ys
+      → meaning_in (moved_head) (moved_symbols) ≡ moved_meaning dx dy (meaning_in head symbols)
+  memory_moved hx hy =
+      let n = head.symbol_count in
+      let each : upto (symbol_at moved_symbols) n ≡ upto (λ i. moved_symbol dx dy (symbol_at symbols i)) n =
+      upto_same (symbol_at moved_symbols) (λ i. moved_symbol dx dy (symbol_at symbols i)) n (λ i l j.
+      record { code = at symbols.codes i; x = map_at (moved_number dx) n symbols.xs i l hx j; y = map_at (moved_number dy) n symbols.ys i l hy j }) in
+      let moved = each ∙ sym (map_upto (moved_symbol dx dy) (symbol_at symbols) n) in
       λ j. record {
-        prefix = upto (at prefix) p;
-        marker = marker;
-        x = stays_moved dx right a.0 j;
-        y = stays_moved dy bottom b.0 j;
-        symbols = symbols j;
+        prefix = upto (at symbols.prefix) head.prefix_count;
+        marker = head.marker;
+        x = moved_number dx head.max_x;
+        y = moved_number dy head.max_y;
+        symbols = moved j;
       }

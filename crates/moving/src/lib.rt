@@ -1,4 +1,4 @@
-// Moving the numbers of a sign that lies in arrays.
+// Moving the numbers of a sign that lies in memory.
 #![tactic(auto)]
 
 pub mod writing;

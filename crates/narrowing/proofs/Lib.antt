@@ -4,3 +4,4 @@ pub mod Runs
 pub mod Calls
 pub mod Entries
 pub mod Distinct
+pub mod Told

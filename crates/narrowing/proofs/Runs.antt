@@ -12,8 +12,7 @@ use Rattle.format.specs.Format.{every, keep}
 use Rattle.format.proofs.Lists.{every_perm}
 use Rattle.token.specs.Result.{Result, refusal, done, on_done}
 use Rattle.token.proofs.Checks.{Counted}
-use Rattle.narrowing.specs.declared.Narrowed.{Narrowed}
-use Rattle.narrowing.specs.Narrowing.{answer_of, filled, list_after}
+use Rattle.narrowing.specs.Narrowing.{Narrowed, answer_of, filled, list_after}
 use Rattle.narrowing.specs.Run.{Ended, next_count, answering, run, total, refusal_of, told}
 use Rattle.narrowing.proofs.Filled.{filled_whole, filled_again}
 use Rattle.format.proofs.Keeping.{keep_length, keep_keep, keep_every}

@@ -4,8 +4,7 @@ use Rattle.std.specs.Prelude.{ℕ, ◌+◌, ◌<◌, ◌≡◌, Bool, true, leng
 use mathlib.Core.List.{List, ◌++◌, map, Perm}
 use Rattle.format.specs.Format.{every, keep}
 use Rattle.token.specs.Result.{Result, refusal, done, on_done}
-use Rattle.narrowing.specs.declared.Narrowed.{Narrowed}
-use Rattle.narrowing.specs.Narrowing.{filled, narrowing}
+use Rattle.narrowing.specs.Narrowing.{Narrowed, filled, narrowing}
 use Rattle.narrowing.specs.Run.{Ended, run, total, refusal_of, told}
 
 -- what a query asks of an entry: nothing where it is refused

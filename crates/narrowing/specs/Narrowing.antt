@@ -1,9 +1,10 @@
 -- One narrowing call (document 01, "The dictionary and its list", "Refusal numbers"), over what its query, dictionary and lines come to.
-use Rattle.std.specs.Prelude.{ℕ, zero, suc, ◌-◌, List, [], ◌∷◌, ◌++◌, Bool, true, false, not, ◌&&◌, ◌||◌, eqb, ltb, leb, length, take, drop, replicate}
+use Rattle.std.specs.Prelude.{Result as Answer, Ok, Err, Option, None, Some, ℕ, zero, suc, ◌-◌, List, [], ◌∷◌, ◌++◌, Bool, true, false, not, ◌&&◌, ◌||◌, eqb, ltb, leb, length, take, drop, replicate}
 use Rattle.format.specs.Format.{choose, keep}
-use Rattle.token.specs.Refusal.{list_wrong, line_wrong}
+use Rattle.token.specs.Refusal.{list_wrong, line_wrong, number_of, place_of}
 use Rattle.token.specs.Result.{Result, refusal, done, check, and_then}
-use Rattle.narrowing.specs.declared.Narrowed.{Narrowed}
+use Rattle.token.specs.declared.refusal.Refusal.{Refusal}
+use Rattle.narrowing.specs.declared.Narrowed.{Narrowed as Counts}
 
 -- n entries from k on, and entries 1 to n
 unfoldable pub entries_from : ℕ → ℕ → List ℕ
@@ -41,6 +42,11 @@ unfoldable pub first_bad : (ℕ → Bool) → List ℕ → ℕ
 first_bad readable [] = 0
 first_bad readable (e ∷ entries) = choose (readable e) (first_bad readable entries) e
 
+-- an entry as the functions that look for it answer it: none in place of 0
+abbrev pub some_entry : ℕ → Option ℕ
+some_entry zero = None
+some_entry (suc e) = Some (suc e)
+
 -- refused as 13 with that entry
 abbrev pub check_lines : {A : Type 0} → (ℕ → Bool) → List ℕ → Result A → Result A
 check_lines readable entries r = check (eqb (first_bad readable entries) 0) line_wrong (first_bad readable entries) r
@@ -55,10 +61,21 @@ kept_by query count valid readable list n =
     (check_lines readable (take n list)
     (done (keep test (take n list))))
 
+-- What a call answers, as numbers: zeros but for number and place where it is refused.
+pub record Narrowed : Type 0 where
+  pub number : ℕ
+  pub place : ℕ
+  pub kept : ℕ
+  pub dropped : ℕ
+
+-- and by the function that makes it: both counts, or the refusal
+abbrev pub as_narrowed : Answer Counts Refusal → Narrowed
+as_narrowed (Ok counts) = record { number = 0; place = 0; kept = counts.kept; dropped = counts.dropped }
+as_narrowed (Err e) = record { number = number_of e; place = place_of e; kept = 0; dropped = 0 }
+
 abbrev pub not_narrowed : ℕ → ℕ → Narrowed
 not_narrowed number place = record { number = number; place = place; kept = 0; dropped = 0 }
 
--- what a call answers: zeros but for number and place where it is refused
 unfoldable pub answer_of : ℕ → Result (List ℕ) → Narrowed
 answer_of n (refusal number place) = not_narrowed number place
 answer_of n (done kept) = record { number = 0; place = 0; kept = length kept; dropped = n - length kept }

@@ -4,7 +4,7 @@ use Rattle.std.specs.Prelude.{ℕ, ◌+◌, Bool, eqb}
 use mathlib.Core.List.{List, [], ◌∷◌, foldr}
 use Rattle.format.specs.Format.{choose}
 use Rattle.token.specs.Result.{Result, refusal, done}
-use Rattle.narrowing.specs.declared.Narrowed.{Narrowed}
+use Rattle.narrowing.specs.Narrowing.{Narrowed}
 
 -- the list memory after a run, the count for the next call, and what each call answered
 pub record Ended : Type 0 where

@@ -1,29 +1,25 @@
 -- What the inner functions of reading a part of a sign promise.
-use Rattle.std.specs.Prelude.{◌≡◌, ℕ, ◌+◌, ◌*◌, ◌<◌, ◌≤◌, List, take, drop, nat_le, slice_index, slice_index_or}
+use Rattle.std.specs.Prelude.{Result as Answer, Ok, Err, Option, None, Some, ◌≡◌, ℕ, ◌+◌, ◌*◌, ◌<◌, ◌≤◌, List, length, take, drop, nat_le, slice_index, slice_index_or}
 use Rattle.format.specs.Format.{Format, choose}
 use Rattle.format.specs.Located.{locate, on_found}
 use Rattle.charset.specs.declared.Charset.{Charset}
 use Rattle.charset.specs.Bytes.{digit_of}
 use Rattle.charset.specs.Tokens.{Tokens, tokens}
 use Rattle.grammar.specs.Sign.{point}
-use Rattle.token.specs.declared.reading.Token.{Token}
-use Rattle.token.specs.declared.reading.Token.TheVariants as token
-use Rattle.part.specs.declared.quick.Look.{Look}
-use Rattle.part.specs.declared.quick.Look.TheVariants.{Found}
+use Rattle.token.specs.declared.refusal.Refusal.{Refusal}
 use Rattle.part.specs.declared.reading.Placed.{Placed}
-use Rattle.part.specs.declared.reading.Placed.TheVariants.{Wrong, Short}
-use Rattle.part.specs.Placed.{told_placed}
+use Rattle.part.specs.Placed.{of_placed, told_placed}
 
 -- READ WITH CARE
 
 -- the coordinate that follows a value
-unfoldable pub point_after : Charset → List ℕ → ℕ → ℕ → Placed
-point_after set s at v = told_placed (on_found (λ p. (v, p)) (locate (point (tokens set)) s at))
+unfoldable pub point_after : Charset → List ℕ → ℕ → ℕ → Answer Placed Refusal
+point_after set s at v = told_placed (length s) (on_found (λ p. (v, p)) (locate (point (tokens set)) s at))
 
-unfoldable pub point_then : Charset → List ℕ → ℕ → Token → Placed
-point_then set s at (token.Value v) = point_after set s at v
-point_then set s at (token.Wrong p) = Wrong p
-point_then set s at token.Short = Short
+-- the same where a value was read
+unfoldable pub point_then : Charset → List ℕ → ℕ → Answer ℕ Refusal → Answer Placed Refusal
+point_then set s at (Ok v) = point_after set s at v
+point_then set s at (Err e) = Err e
 
 -- A QUICK LOOK: what it computes and finds. FSW: sums over digits, in which the first counts as its byte, 0x30 more than its
 -- value, and a byte that is no hexadecimal digit counts 65536.
@@ -46,16 +42,18 @@ pub record Spelled (n : ℕ) {A : Type 0} (f : Format A) (s : List ℕ) (at : �
   pub valid : f.Valid v
   pub bytes : take n (drop at s) ≡ f.write v
 
--- what is found is there; finding nothing, which is 0, says nothing
-pub record SureValue (n : ℕ) (f : Format ℕ) (s : List ℕ) (at r : ℕ) : Type 0 where
-  pub is : 0 < r → Spelled n f s at r
+-- what is found is there; finding nothing says nothing
+pub record Sure (n : ℕ) {A : Type 0} (f : Format A) (s : List ℕ) (at : ℕ) (r : Option A) : Type 0 where
+  pub is : (v : A) → r ≡ Some v → Spelled n f s at v
 
-pub record Sure (n : ℕ) (f : Format (ℕ × (ℕ × ℕ))) (s : List ℕ) (at : ℕ) (r : Look) : Type 0 where
-  pub is : (v x y : ℕ) → r ≡ Found v x y → Spelled n f s at (v, (x, y))
+-- the parts of what is found
+abbrev pub parts : Option Placed → Option (ℕ × (ℕ × ℕ))
+parts None = None
+parts (Some p) = Some (of_placed p)
 
 -- the same of the coordinate after a value
-pub record SureAfter (t : Tokens) (s : List ℕ) (at value : ℕ) (r : Look) : Type 0 where
-  pub is : (v x y : ℕ) → r ≡ Found v x y → (v ≡ value) × Spelled (t.number_size + t.second_size) (point t) s at (x, y)
+pub record SureAfter (t : Tokens) (s : List ℕ) (at value : ℕ) (r : Option Placed) : Type 0 where
+  pub is : (p : Placed) → r ≡ Some p → (p.value ≡ value) × Spelled (t.number_size + t.second_size) (point t) s at (p.x, p.y)
 
 -- the value of a decimal digit; more than 9 says nothing
 pub record SureDigit (b r : ℕ) : Type 0 where

@@ -6,18 +6,19 @@ ghost use Rattle.grammar.specs.Sign.{lead, spatial, prefix_symbol};
 ghost use Rattle.grammar.specs.Size.{lead_size, spatial_size};
 ghost use Rattle.token.specs.Token.{token_at};
 ghost use Rattle.part.specs.Placed.{placed_at};
-ghost use Rattle.part.specs.Inner.{point_after, point_then, Sure, SureValue};
+ghost use Rattle.part.specs.Inner.{point_after};
 
-use super::quick::Look;
+use super::quick;
 use charset::Charset;
-use token::reading::{LAST_LOCATION, LAST_WRITING, Token};
+use token::reading::{LAST_LOCATION, LAST_WRITING};
+use token::refusal::Refusal;
 
-// A code or a marker with its coordinate; the offset of the unit that is not allowed; or that the text ends.
+// A code or a marker with its coordinate.
 #[derive(Clone, Copy)]
-pub enum Placed {
-    At(u16, u16, u16),
-    Wrong(usize),
-    Short,
+pub struct Placed {
+    pub value: u16,
+    pub x: u16,
+    pub y: u16,
 }
 
 // The bytes of a signbox lead and of a spatial symbol.
@@ -40,129 +41,68 @@ pub fn spatial_size(set: Charset) -> usize
 }
 
 // The coordinate that follows a code or a marker.
-fn point_after(set: Charset, s: &[u8], at: usize, v: u16) -> Placed
+fn point_after(set: Charset, s: &[u8], at: usize, value: u16) -> Result<Placed, Refusal>
     requires { at + 128 ≤ 2 ^ 64 }
-    ensures { result ≡ point_after set s.now at v }
+    ensures { result ≡ point_after set s.now at value }
 {
-    match token::reading::number_at(set, s, at) {
-        Token::Value(x) => {
-            let size = token::reading::number_size(set);
-            match token::reading::second_at(set, s, at + size) {
-                Token::Value(y) => Placed::At(v, x, y),
-                Token::Wrong(p) => Placed::Wrong(p),
-                Token::Short => Placed::Short,
-            }
-        }
-        Token::Wrong(p) => Placed::Wrong(p),
-        Token::Short => Placed::Short,
-    }
-}
-
-// The same where a code or a marker was found.
-fn point_then(set: Charset, s: &[u8], at: usize, first: Token) -> Placed
-    requires { at + 128 ≤ 2 ^ 64 }
-    ensures { result ≡ point_then set s.now at first }
-{
-    match first {
-        Token::Value(v) => point_after(set, s, at, v),
-        Token::Wrong(p) => Placed::Wrong(p),
-        Token::Short => Placed::Short,
-    }
+    let x = token::reading::number_at(set, s, at)?;
+    let size = token::reading::number_size(set);
+    let y = token::reading::second_at(set, s, at + size)?;
+    Ok(Placed { value, x, y })
 }
 
 // The marker and the maximum of a signbox, read with care.
-fn lead_careful(set: Charset, s: &[u8], at: usize) -> Placed
+fn lead_careful(set: Charset, s: &[u8], at: usize) -> Result<Placed, Refusal>
     requires { at + 256 ≤ 2 ^ 64 }
     ensures { result ≡ placed_at (lead (tokens set)) s.now at }
 {
+    let marker = token::reading::marker_at(set, s, at, 1, 4)?;
     let size = token::reading::marker_size(set);
-    point_then(
-        set,
-        s,
-        at + size,
-        token::reading::marker_at(set, s, at, 1, 4),
-    )
+    point_after(set, s, at + size, marker)
 }
 
-// A writing symbol and its coordinate, read with care.
-fn spatial_careful(set: Charset, s: &[u8], at: usize) -> Placed
+// A writing symbol and its coordinate, read with care: it is left out of the loop over the symbols. Symbols and markers differ in more
+// than what a trait for both would save.
+#[cold]
+#[inline(never)]
+fn spatial_careful(set: Charset, s: &[u8], at: usize) -> Result<Placed, Refusal>
     requires { at + 256 ≤ 2 ^ 64 }
     ensures { result ≡ placed_at (spatial (tokens set)) s.now at }
 {
+    let code = token::reading::symbol_at(set, s, at, LAST_WRITING)?;
     let size = token::reading::symbol_size(set);
-    point_then(
-        set,
-        s,
-        at + size,
-        token::reading::symbol_at(set, s, at, LAST_WRITING),
-    )
-}
-
-// What a quick look finds.
-fn quick_lead(set: Charset, s: &[u8], at: usize) -> Look
-    requires { at + 256 ≤ 2 ^ 64 }
-    ensures { Sure (lead_size set) (lead (tokens set)) s.now at result }
-{
-    match set {
-        Charset::Fsw => super::quick_fsw::lead_at(s, at),
-        Charset::Swu => super::quick_swu::lead_at(s, at),
-    }
-}
-
-fn quick_prefix_symbol(set: Charset, s: &[u8], at: usize) -> u16
-    requires { at + 256 ≤ 2 ^ 64 }
-    ensures { SureValue (tokens set).symbol_size (prefix_symbol (tokens set)) s.now at result }
-{
-    match set {
-        Charset::Fsw => super::quick_fsw::prefix_symbol(s, at),
-        Charset::Swu => super::quick_swu::prefix_symbol(s, at),
-    }
+    point_after(set, s, at + size, code)
 }
 
 // The marker and the maximum of a signbox.
-pub fn lead_at(set: Charset, s: &[u8], at: usize) -> Placed
+pub fn lead_at(set: Charset, s: &[u8], at: usize) -> Result<Placed, Refusal>
     requires { at + 256 ≤ 2 ^ 64 }
     ensures { result ≡ placed_at (lead (tokens set)) s.now at }
 {
-    let quick = quick_lead(set, s, at);
-    let Look::Found(m, x, y) = quick else {
+    let Some(lead) = quick::lead_at(set, s, at) else {
         return lead_careful(set, s, at);
     };
-    Placed::At(m, x, y)
+    Ok(lead)
 }
 
-// A writing symbol and its coordinate. The careful reader is called for each set by itself, so that the compiler leaves
-// it out of the loop over the symbols.
-pub fn spatial_at(set: Charset, s: &[u8], at: usize) -> Placed
+// A writing symbol and its coordinate.
+pub fn spatial_at(set: Charset, s: &[u8], at: usize) -> Result<Placed, Refusal>
     requires { at + 256 ≤ 2 ^ 64 }
     ensures { result ≡ placed_at (spatial (tokens set)) s.now at }
 {
-    match set {
-        Charset::Fsw => {
-            let quick = super::quick_fsw::spatial_at(s, at);
-            let Look::Found(code, x, y) = quick else {
-                return spatial_careful(Charset::Fsw, s, at);
-            };
-            Placed::At(code, x, y)
-        }
-        Charset::Swu => {
-            let quick = super::quick_swu::spatial_at(s, at);
-            let Look::Found(code, x, y) = quick else {
-                return spatial_careful(Charset::Swu, s, at);
-            };
-            Placed::At(code, x, y)
-        }
-    }
+    let Some(symbol) = quick::spatial_at(set, s, at) else {
+        return spatial_careful(set, s, at);
+    };
+    Ok(symbol)
 }
 
 // A prefix symbol, by its code.
-pub fn prefix_symbol_at(set: Charset, s: &[u8], at: usize) -> Token
+pub fn prefix_symbol_at(set: Charset, s: &[u8], at: usize) -> Result<u16, Refusal>
     requires { at + 256 ≤ 2 ^ 64 }
     ensures { result ≡ token_at (prefix_symbol (tokens set)) s.now at }
 {
-    let code = quick_prefix_symbol(set, s, at);
-    if code != 0 {
-        return Token::Value(code);
-    }
-    token::reading::symbol_or_null_at(set, s, at, LAST_LOCATION)
+    let Some(code) = quick::prefix_symbol(set, s, at) else {
+        return token::reading::symbol_or_null_at(set, s, at, LAST_LOCATION);
+    };
+    Ok(code)
 }

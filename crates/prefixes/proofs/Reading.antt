@@ -1,68 +1,53 @@
 -- Words where they lie: the number of some bytes at an offset, and one law for each way in which a word is there or not.
-use Prim.Native.Nat.{ℕ, zero, suc, ◌+◌, ◌*◌, ◌≤◌, ◌<◌}
+use Prim.Native.Nat.{ℕ, zero, suc, ◌+◌, ◌*◌, ◌^◌, ◌≤◌, ◌<◌}
 use mathlib.Core.Path.{◌≡◌, refl, sym, ap, ◌∙◌}
-use mathlib.Core.List.{List, [], ◌∷◌}
-use mathlib.Core.Bool.{Bool, true, false, ◌&&◌}
+use mathlib.Core.List.{List, [], ◌∷◌, ◌++◌}
+use mathlib.Core.Bool.{Bool, true, false, ◌&&◌, true≢false}
 use native.Mathlib.Numerals.{add-one}
 use native.Mathlib.Omega.{arith}
 use lib.Dec.{eqb}
 use lib.ListN.{length, take, drop, get_or, length-drop}
-use lib.Seq.{drop-cons, drop-drop, get_or-drop}
-use borrow.Author.Tests.{eq-eqb, ne_eqb, le-leb, lt-leb}
+use lib.Pow.{pow-add, pow_mono}
+use lib.Seq.{drop-drop, get_or-drop, take-suc}
+use borrow.Author.Tests.{eq-eqb, eqb-true, eqb-false, ne_eqb, le-leb, lt-leb}
+use Rattle.format.specs.Format.{choose}
 use Rattle.charset.specs.declared.Charset.{Charset}
 use Rattle.charset.specs.declared.Charset.TheVariants.{Fsw, Swu}
 use Rattle.charset.specs.Tokens.{tokens}
 use Rattle.charset.proofs.Coding.{by_test}
-use Rattle.prefixes.specs.Words.{number_from, number, lead_byte, begins, words_from, marked, words_in}
-use Rattle.prefixes.specs.Inner.{with_word, no_prefix, first_size, WordAt, FirstAt}
+use Rattle.prefixes.specs.Words.{number_from, number, lead_byte, begins, words_from, marked, words_in, words_at}
+use Rattle.prefixes.specs.Inner.{word_in, with_word, no_prefix, first_size, WordAt, MarkedAt, FirstAt}
 
 -- BYTES
+number_push : (acc : ℕ) (l : List ℕ) (b : ℕ) → number_from acc (l ++ (b ∷ [])) ≡ number_from acc l * 256 + b
+number_push acc [] b = refl
+number_push acc (a ∷ l) b = number_push (acc * 256 + a) l b
 
-module _ (s : List ℕ) where
-  next : (n acc at to : ℕ) → at < length s → to ≡ at + 1
-      → number_from acc (take (suc n) (drop at s)) ≡ number_from (acc * 256 + get_or s at 0) (take n (drop to s))
-  next n acc at to h e =
-      ap (λ l. number_from acc (take (suc n) l)) (drop-cons s at 0 h)
-      ∙ ap (λ m. number_from (acc * 256 + get_or s at 0) (take n (drop m s))) (sym (e ∙ add-one at))
+pub number_more : (s : List ℕ) (i n b : ℕ) → i < length s → n ≡ number (take i s) → b ≡ get_or s i 0 → n * 256 + b ≡ number (take (i + 1) s)
+number_more s i n b h e f = rw (add-one, take-suc s i 0 h, number_push 0 (take i s) (get_or s i 0), e, f)
 
-  pub one_byte : (at : ℕ) → at < length s → number (take 1 (drop at s)) ≡ get_or s at 0
-  one_byte at h = next 0 0 at (at + 1) h refl ∙ omega arith
+pub one_byte : (s : List ℕ) (at : ℕ) → at < length s → get_or s at 0 ≡ number (take 1 (drop at s))
+one_byte s at h =
+    let z : at + 0 ≡ at = omega arith in
+    let one : 0 * 256 + get_or s at 0 ≡ number (take 1 (drop at s)) =
+    number_more (drop at s) 0 0 (get_or s at 0) (omega (arith, length-drop at s)) refl (sym (get_or-drop at s 0 0 ∙ ap (λ n. get_or s n 0) z)) in
+    omega (arith, one)
 
-  two_after : (acc at : ℕ) → at + 2 ≤ length s → number_from acc (take 2 (drop at s)) ≡ acc * 0x10000 + get_or s at 0 * 0x100 + get_or s (at + 1) 0
-  two_after acc at h =
-      let e = next 1 acc at (at + 1) (omega arith) refl ∙ next 0 (acc * 256 + get_or s at 0) (at + 1) (at + 2) (omega arith) (omega arith) in
-      e ∙ omega arith
+pub number_six : (i n : ℕ) → n < 2 ^ (8 * i) → i ≤ 6 → n < 2 ^ 48
+number_six i n h l =
+    let z : 8 * i ≤ 48 = omega arith in
+    omega (arith, pow_mono {i = 8 * i} {j = 48} z)
 
-  pub two_bytes : (at a b : ℕ) → at + 2 ≤ length s → a ≡ get_or s at 0 → b ≡ get_or s (at + 1) 0 → a * 0x100 + b ≡ number (take 2 (drop at s))
-  two_bytes at a b h e f = omega (arith, two_after 0 at h)
+pub number_fits : (i n b : ℕ) → n < 2 ^ (8 * i) → b < 256 → n * 256 + b < 2 ^ (8 * (i + 1))
+number_fits i n b h l =
+    let z : 8 * (i + 1) ≡ 8 * i + 8 = omega arith in
+    let p : 2 ^ (8 * (i + 1)) ≡ 2 ^ (8 * i) * 256 = ap (λ k. 2 ^ k) z ∙ pow-add 2 (8 * i) 8 in
+    omega (arith, p)
 
-  abbrev four_sum : ℕ → ℕ
-  four_sum at = get_or s at 0 * 0x1000000 + get_or s (at + 1) 0 * 0x10000 + get_or s (at + 2) 0 * 0x100 + get_or s (at + 3) 0
-
-  four_before : (n at : ℕ) → at + 4 ≤ length s → number (take (suc (suc (suc (suc n)))) (drop at s)) ≡ number_from (four_sum at) (take n (drop (at + 4) s))
-  four_before n at h =
-      let a = get_or s at 0 in
-      let b = get_or s (at + 1) 0 in
-      let c = get_or s (at + 2) 0 in
-      let d = get_or s (at + 3) 0 in
-      let e : (((0 * 256 + a) * 256 + b) * 256 + c) * 256 + d ≡ four_sum at = omega arith in
-      next (suc (suc (suc n))) 0 at (at + 1) (omega arith) refl
-      ∙ next (suc (suc n)) (0 * 256 + a) (at + 1) (at + 2) (omega arith) (omega arith)
-      ∙ next (suc n) ((0 * 256 + a) * 256 + b) (at + 2) (at + 3) (omega arith) (omega arith)
-      ∙ next n (((0 * 256 + a) * 256 + b) * 256 + c) (at + 3) (at + 4) (omega arith) (omega arith)
-      ∙ ap (λ m. number_from m (take n (drop (at + 4) s))) e
-
-  pub four_bytes : (at a b c d : ℕ) → at + 4 ≤ length s → a ≡ get_or s at 0 → b ≡ get_or s (at + 1) 0 → c ≡ get_or s (at + 2) 0 → d ≡ get_or s (at + 3) 0
-      → a * 0x1000000 + b * 0x10000 + c * 0x100 + d ≡ number (take 4 (drop at s))
-  four_bytes at a b c d h e f g i = omega (arith, four_before 0 at h)
-
-  pub six_bytes : (at a b : ℕ) → at + 6 ≤ length s → a ≡ number (take 4 (drop at s)) → b ≡ number (take 2 (drop (at + 4) s))
-      → a * 0x10000 + b ≡ number (take 6 (drop at s))
-  six_bytes at a b h e f =
-      let high : a ≡ four_sum at = e ∙ four_before 0 at (omega arith) in
-      let low = f ∙ two_after 0 (at + 4) (omega arith) in
-      let whole = four_before 2 at (omega arith) ∙ two_after (four_sum at) (at + 4) (omega arith) in
-      omega (arith, high, low, whole)
+pub number_room : (i n : ℕ) → n < 2 ^ (8 * i) → i < 8 → n * 256 < 2 ^ 64
+number_room i n h l =
+    let z : 8 * (i + 1) ≤ 64 = omega arith in
+    omega (arith, number_fits i n 0 h (omega arith), pow_mono {i = 8 * (i + 1)} {j = 64} z)
 
 -- a number is not less than its first byte
 from_least : (acc : ℕ) (l : List ℕ) → acc ≤ number_from acc l
@@ -82,6 +67,10 @@ symbol_least Swu text = first_least 3 text
 not_both : (t : Bool) → (t && false) ≡ false
 not_both true = refl
 not_both false = refl
+
+and_first : (t u : Bool) → (t && u) ≡ true → t ≡ true
+and_first true u e = refl
+and_first false u e = e
 
 pub none_here : (set : Charset) (text : List ℕ) → begins set text ≡ false → (k : ℕ) → words_from set (suc k) text ≡ []
 unfolding words_from
@@ -105,39 +94,32 @@ positive zero l h = absurd (omega (arith, h))
 positive (suc r) l h = refl
 
 module _ (set : Charset) (s : List ℕ) (at : ℕ) where
-  first_is : get_or (drop at s) 0 0 ≡ get_or s at 0
-  first_is = let z : at + 0 ≡ at = omega arith in get_or-drop at s 0 0 ∙ ap (λ n. get_or s n 0) z
+  word_is : (k : ℕ) → begins set (drop at s) ≡ true
+      → words_from set (suc k) (drop at s) ≡ number (take (tokens set).symbol_size (drop at s)) ∷ words_from set k (drop (at + (tokens set).symbol_size) s)
+  word_is k e =
+      one_here set (drop at s) e k
+      ∙ ap (λ l. number (take (tokens set).symbol_size (drop at s)) ∷ words_from set k l) (drop-drop (tokens set).symbol_size at s)
 
-  begins_short : length s < at + (tokens set).symbol_size → begins set (drop at s) ≡ false
-  begins_short h =
-      rw (lt-leb (tokens set).symbol_size (length (drop at s)) (omega (arith, length-drop at s, size_positive set)))
-      (not_both (eqb (get_or (drop at s) 0 0) (lead_byte set)))
+  -- by the size and the lead byte of a symbol
+  pub word_told : WordAt set s at (word_in (tokens set).symbol_size (lead_byte set) (drop at s))
+  word_told = record { is = λ k. go (begins set (drop at s)) refl k }
+    where
+      go : (t : Bool) → begins set (drop at s) ≡ t → (k : ℕ)
+          → words_from set (suc k) (drop at s) ≡ with_word (choose t (number (take (tokens set).symbol_size (drop at s))) 0) (words_from set k (drop (at + (tokens set).symbol_size) s))
+      go true e k =
+          let lead = eqb-true (get_or (drop at s) 0 0) (lead_byte set) (and_first _ _ e) in
+          let h : 0 < number (take (tokens set).symbol_size (drop at s)) = omega (arith, lead_positive set, symbol_least set (drop at s), lead) in
+          word_is k e ∙ positive _ _ h
+      go false e k = none_here set (drop at s) e k
 
-  begins_other : (get_or s at 0 ≡ lead_byte set → ⊥) → begins set (drop at s) ≡ false
-  begins_other n = rw (ne_eqb (get_or (drop at s) 0 0) (lead_byte set) (λ e. n (sym first_is ∙ e)))
+-- by the bytes that are looked at
+module _ (s : List ℕ) (at size lead : ℕ) (some : 1 ≤ size) where
+  lead_is : get_or (drop at s) 0 0 ≡ get_or s at 0
+  lead_is = let z : at + 0 ≡ at = omega arith in get_or-drop at s 0 0 ∙ ap (λ n. get_or s n 0) z
 
-  begins_there : at + (tokens set).symbol_size ≤ length s → get_or s at 0 ≡ lead_byte set → begins set (drop at s) ≡ true
-  begins_there room e =
-      rw (eq-eqb (get_or (drop at s) 0 0) (lead_byte set) (first_is ∙ e), le-leb (tokens set).symbol_size (length (drop at s)) (omega (arith, length-drop at s)))
-
-  pub word_short : length s < at + (tokens set).symbol_size → WordAt set s at 0
-  word_short h = record { is = none_here set (drop at s) (begins_short h) }
-
-  pub word_other : (get_or s at 0 ≡ lead_byte set → ⊥) → WordAt set s at 0
-  word_other n = record { is = none_here set (drop at s) (begins_other n) }
-
-  word_is : (r : ℕ) → at + (tokens set).symbol_size ≤ length s → get_or s at 0 ≡ lead_byte set → r ≡ number (take (tokens set).symbol_size (drop at s))
-      → (k : ℕ) → words_from set (suc k) (drop at s) ≡ r ∷ words_from set k (drop (at + (tokens set).symbol_size) s)
-  word_is r room e w k =
-      one_here set (drop at s) (begins_there room e) k
-      ∙ ap (λ n. n ∷ words_from set k (drop (tokens set).symbol_size (drop at s))) (sym w)
-      ∙ ap (λ l. r ∷ words_from set k l) (drop-drop (tokens set).symbol_size at s)
-
-  pub word_there : (r : ℕ) → at + (tokens set).symbol_size ≤ length s → get_or s at 0 ≡ lead_byte set → r ≡ number (take (tokens set).symbol_size (drop at s))
-      → WordAt set s at r
-  word_there r room e w =
-      let h : 0 < r = omega (arith, lead_positive set, symbol_least set (drop at s), first_is, e, w) in
-      record { is = λ k. word_is r room e w k ∙ positive r _ h }
+  pub word_there : at + size ≤ length s → get_or s at 0 ≡ lead → (r : ℕ) → r ≡ number (take size (drop at s)) → r ≡ word_in size lead (drop at s)
+  word_there room e r w =
+      rw (eq-eqb (get_or (drop at s) 0 0) lead (lead_is ∙ e), le-leb size (length (drop at s)) (omega (arith, length-drop at s))) w
 
 -- THE FIRST WORD
 
@@ -145,39 +127,42 @@ module _ (set : Charset) (s : List ℕ) (at : ℕ) where
   abbrev start : ℕ
   start = at + (tokens set).marker_size
 
-  abbrev mark : ℕ
-  mark = number (take (tokens set).marker_size (drop at s))
-
-  abbrev a : ℕ
-  a = number (((tokens set).marker 0 0).write 0)
-
-  pub first_unmarked : (number (take (tokens set).marker_size (drop at s)) ≡ number (((tokens set).marker 0 0).write 0) → ⊥) → FirstAt set s at no_prefix
+  pub unmarked : (number (take (tokens set).marker_size (drop at s)) ≡ number (((tokens set).marker 0 0).write 0) → ⊥) → words_at set s at ≡ []
   unfolding words_in
-  first_unmarked n = record { is = rw (ne_eqb mark a n) }
+  unmarked n = rw (ne_eqb (number (take (tokens set).marker_size (drop at s))) (number (((tokens set).marker 0 0).write 0)) n)
 
   -- whether or not there is an A
-  first_none : begins set (drop (at + (tokens set).marker_size) s) ≡ false → FirstAt set s at no_prefix
+  pub cut_off : length s < at + (tokens set).marker_size → words_at set s at ≡ []
   unfolding words_in
-  first_none e = record {
-    is = by_test (λ l. l ≡ []) (marked set (drop at s))
-        (λ _. ap (words_from set 32) (drop-drop (tokens set).marker_size at s) ∙ none_here set (drop start s) e 31) λ _. refl;
+  cut_off h =
+      let none : begins set (drop start s) ≡ false = rw (lt-leb (tokens set).symbol_size (length (drop start s)) (omega (arith, length-drop start s, size_positive set)))
+      (not_both (eqb (get_or (drop start s) 0 0) (lead_byte set))) in
+      by_test (λ l. l ≡ []) (marked set (drop at s))
+      (λ _. ap (words_from set 32) (drop-drop (tokens set).marker_size at s) ∙ none_here set (drop start s) none 31) λ _. refl
+
+  pub not_there : length s < at + (tokens set).marker_size → (b : Bool) → b ≡ false → MarkedAt set s at b
+  not_there h b e = record { yes = λ y. absurd (true≢false (sym y ∙ e)); no = λ n. cut_off h }
+
+  pub told_by : (v : ℕ) → v ≡ number (take (tokens set).marker_size (drop at s)) → MarkedAt set s at (eqb v (number (((tokens set).marker 0 0).write 0)))
+  told_by v e = record {
+    yes = λ y. sym (ap (λ n. eqb n (number (((tokens set).marker 0 0).write 0))) e) ∙ y;
+    no = λ n. unmarked λ q. eqb-false v (number (((tokens set).marker 0 0).write 0)) n (e ∙ q);
   }
 
-  pub first_short : length s < at + first_size set → FirstAt set s at no_prefix
-  first_short h = first_none (begins_short set s start (omega arith))
+  pub first_none : words_at set s at ≡ [] → FirstAt set s at no_prefix
+  first_none e = record { is = e }
 
-  pub first_other : (get_or s (at + (tokens set).marker_size) 0 ≡ lead_byte set → ⊥) → FirstAt set s at no_prefix
-  first_other n = first_none (begins_other set s start n)
+  module _ (m : marked set (drop at s) ≡ true) (w : ℕ) (p : WordAt set s start w) where
+    opened : words_at set s at ≡ with_word w (words_from set 31 (drop (at + first_size set) s))
+    unfolding words_in
+    opened =
+        let z : start + (tokens set).symbol_size ≡ at + first_size set = omega arith in
+        rw m (ap (words_from set 32) (drop-drop (tokens set).marker_size at s) ∙ p.is 31 ∙ ap (λ n. with_word w (words_from set 31 (drop n s))) z)
 
-  pub first_there : (r : ℕ) → at + first_size set ≤ length s → number (take (tokens set).marker_size (drop at s)) ≡ number (((tokens set).marker 0 0).write 0)
-      → get_or s (at + (tokens set).marker_size) 0 ≡ lead_byte set → r ≡ number (take (tokens set).symbol_size (drop (at + (tokens set).marker_size) s))
-      → r < no_prefix → FirstAt set s at r
-  unfolding words_in
-  first_there r room m e w h =
-      let z : start + (tokens set).symbol_size ≡ at + first_size set = omega arith in
-      record {
-        is = rw (eq-eqb mark a m, ne_eqb r no_prefix (λ x. omega arith))
-            (ap (words_from set 32) (drop-drop (tokens set).marker_size at s)
-            ∙ word_is set s start r (omega arith) e w 31
-            ∙ ap (λ n. r ∷ words_from set 31 (drop n s)) z);
-      }
+    pub first_absent : w ≡ 0 → FirstAt set s at no_prefix
+    first_absent z = first_none (opened ∙ rw z)
+
+    pub first_there : (w ≡ 0 → ⊥) → w < 2 ^ 48 → FirstAt set s at w
+    first_there z h = record {
+      is = opened ∙ sym (positive w _ (omega (arith, z))) ∙ rw (ne_eqb w no_prefix (λ x. omega arith));
+    }

@@ -1,15 +1,17 @@
 -- The reading by value, and what is known of a reading by its number.
-use Prim.Native.Nat.{ℕ, ◌+◌, ◌*◌, ◌≤◌, ◌<◌}
+use Prim.Native.Nat.{ℕ, ◌+◌, ◌*◌, ◌≤◌}
 use mathlib.Core.List.{List}
 use mathlib.Core.Path.{◌≡◌, refl, sym, ap, ◌∙◌}
 use mathlib.Core.Option.{Option, none, some}
 use lib.Dec.{lit<}
 use lib.ListN.{length}
 use native.Mathlib.Omega.{arith}
-use Rattle.token.specs.Refusal.{prefix_long, signbox_long, alternatives_long, range_reversed}
-use Rattle.token.specs.Result.{Result, refusal, done, of_outcome}
+use Rattle.std.specs.Prelude.{Result as Answer, Ok, Err, ⊤}
+use Rattle.token.specs.declared.refusal.Refusal.{Refusal}
+use Rattle.token.specs.Refusal.{number_of, place_of, prefix_long, signbox_long, alternatives_long, range_reversed}
+use Rattle.token.specs.Result.{Result, refusal, done, outcome, of_outcome}
 use Rattle.token.proofs.Checks.{Counted, done_counted, refusal_counted, and_then_counted, outcome_counted}
-use Rattle.token.specs.Padded.{padded, zeros}
+use Rattle.token.specs.Padded.{padded}
 use Rattle.querygrammar.specs.declared.Edition.{Edition}
 use Rattle.querygrammar.specs.Spelling.{spelling}
 use Rattle.querygrammar.specs.Query.{Query, meaning}
@@ -17,9 +19,8 @@ use Rattle.querygrammar.specs.QueryLaws.{read_query}
 use Rattle.queryitem.specs.Words.{spare, word_count, words_of}
 use Rattle.queryitem.proofs.TextSizes.{text_size}
 use Rattle.querypart.specs.Spots.{first_reversed}
-use Rattle.query.specs.declared.words.Head.{Head}
-use Rattle.query.specs.Reading.{spots_of, in_order_of, limited, query_of, reading_of}
-use Rattle.query.specs.Inner.{head_of, ReadInto}
+use Rattle.query.specs.Reading.{spots_of, in_order_of, limited, query_of, reading_of, as_reading}
+use Rattle.query.specs.Inner.{passed, ReadInto}
 use Rattle.query.proofs.Limits.{limited_case}
 use Rattle.query.proofs.Accepted.{query_read, query_accepted}
 
@@ -50,32 +51,52 @@ all_fit e s q z = (query_accepted e s q z).room
 pub short_fit : (e : Edition) (s : List ℕ) (n : ℕ) → 8 + 3 * length s + 2 * spare ≤ 2 * n → Fits e s n
 short_fit e s n h q z = let k = query_read e s q z in rw (← k.same) (omega (arith, h, text_size e s k.says k.is))
 
-module _ (e : Edition) (s : List ℕ) (n : ℕ) (fits : Fits e s n) (h : Head) (words : List ℕ) (v : ReadInto e s n h words) where
+module _ (e : Edition) (s : List ℕ) (n : ℕ) (fits : Fits e s n) (r : Answer ⊤ Refusal) (words : List ℕ) (v : ReadInto e s n r words) where
   pub data Known : Type 0 where
-    not_read : query_of e s ≡ refusal h.number h.place → 0 < h.number → Known
-    was_read : (q : Query) → query_of e s ≡ done q → h.number ≡ 0 → words ≡ padded n (words_of q) → Known
+    not_read : (d : Refusal) → r ≡ Err d → query_of e s ≡ refusal (number_of d) (place_of d) → Known
+    was_read : (q : Query) → r ≡ Ok tt → query_of e s ≡ done q → words ≡ padded n (words_of q) → Known
+
+  known_go : (a : Answer ⊤ Refusal) (q : Result Query) → r ≡ a → query_of e s ≡ q → outcome a ≡ passed q → Known
+  known_go (Ok u) (done k) x z y = was_read k x z (v.holds k z (fits k z))
+  known_go (Ok u) (refusal m p) x z y = absurd (cc y)
+  known_go (Err d) (done k) x z y = absurd (cc y)
+  known_go (Err d) (refusal m p) x z y = not_read d x (z ∙ same y)
+    where
+      same : ◌≡◌ {A = Result ⊤} (refusal (number_of d) (place_of d)) (refusal m p) → ◌≡◌ {A = Result Query} (refusal m p) (refusal (number_of d) (place_of d))
+      same y = let a : number_of d ≡ m = cc in let b : place_of d ≡ p = cc in λ i. refusal (sym a i) (sym b i)
 
   pub known : Known
-  known = go (query_of e s) refl v.is
+  known = known_go r (query_of e s) refl refl v.is
+
+  -- by the answer
+  pub read_failed : (d : Refusal) → r ≡ Err d → query_of e s ≡ refusal (number_of d) (place_of d)
+  read_failed d z = go known
     where
-      go : (r : Result Query) → query_of e s ≡ r → h ≡ head_of r → Known
-      go (refusal n p) z q = not_read (z ∙ sym (λ i. refusal (q i).number (q i).place)) (let a : h.number ≡ n = ap (λ k. k.number) q in omega (arith, query_counted e s n p z))
-      go (done k) z q = was_read k z (ap (λ k. k.number) q) (v.holds k z (fits k z))
+      go : Known → query_of e s ≡ refusal (number_of d) (place_of d)
+      go (not_read c x q) = q ∙ (let y : c ≡ d = same (sym x ∙ z) in ap (λ c. refusal (number_of c) (place_of c)) y)
+        where
+          same : {c : Refusal} → ◌≡◌ {A = Answer ⊤ Refusal} (Err c) (Err d) → c ≡ d
+          same e = cc
+      go (was_read k x q w) = absurd (let y : ◌≡◌ {A = Answer ⊤ Refusal} (Ok tt) (Err d) = sym x ∙ z in cc)
+
+  pub record Read : Type 0 where
+    pub query : Query
+    pub is : query_of e s ≡ done query
+    pub holds : words ≡ padded n (words_of query)
+
+  pub read_done : (u : ⊤) → r ≡ Ok u → Read
+  read_done u z = go known
+    where
+      go : Known → Read
+      go (not_read c x q) = absurd (let y : ◌≡◌ {A = Answer ⊤ Refusal} (Err c) (Ok u) = sym x ∙ z in cc)
+      go (was_read k x q w) = record { query = k; is = q; holds = w }
 
 -- the reading by value
-module _ (e : Edition) (s : List ℕ) (h : Head) (words : List ℕ) (v : ReadInto e s word_count h words) where
-  pub reading_refused : (h.number ≡ 0 → ⊥) → record { number = h.number; place = h.place; words = zeros word_count } ≡ reading_of (query_of e s)
+module _ (e : Edition) (s : List ℕ) (r : Answer ⊤ Refusal) (words : List ℕ) (v : ReadInto e s word_count r words) where
+  pub reading_refused : (d : Refusal) → r ≡ Err d → as_reading (Err d) ≡ reading_of (query_of e s)
   unfolding reading_of
-  reading_refused z = go (known e s word_count (all_fit e s) h words v)
-    where
-      go : Known e s word_count (all_fit e s) h words v → record { number = h.number; place = h.place; words = zeros word_count } ≡ reading_of (query_of e s)
-      go (not_read q n) = sym (ap reading_of q)
-      go (was_read k q n w) = absurd (z n)
+  reading_refused d z = sym (ap reading_of (read_failed e s word_count (all_fit e s) r words v d z))
 
-  pub reading_done : h.number ≡ 0 → record { number = 0; place = 0; words = words } ≡ reading_of (query_of e s)
+  pub reading_done : (u : ⊤) → r ≡ Ok u → record { number = 0; place = 0; words = words } ≡ reading_of (query_of e s)
   unfolding reading_of
-  reading_done z = go (known e s word_count (all_fit e s) h words v)
-    where
-      go : Known e s word_count (all_fit e s) h words v → record { number = 0; place = 0; words = words } ≡ reading_of (query_of e s)
-      go (not_read q n) = absurd (omega arith)
-      go (was_read k q n w) = (λ i. record { number = 0; place = 0; words = w i }) ∙ sym (ap reading_of q)
+  reading_done u z = let k = read_done e s word_count (all_fit e s) r words v u z in (λ i. record { number = 0; place = 0; words = k.holds i }) ∙ sym (ap reading_of k.is)

@@ -2,7 +2,7 @@
 use Prim.Native.Nat.{ℕ, zero, suc, ◌/◌, ◌%◌}
 use mathlib.Core.Path.{◌≡◌, refl}
 use mathlib.Core.List.{List}
-use mathlib.Core.Bool.{Bool, true, false, true≢false}
+use mathlib.Core.Bool.{Bool, true, false, true≢false, not}
 use mathlib.Core.Logic.{inl, inr}
 use mathlib.Core.Option.{Option}
 use native.Mathlib.Omega.{arith}
@@ -15,10 +15,15 @@ use Rattle.querygrammar.specs.declared.Edition.{Edition}
 use Rattle.querygrammar.specs.declared.Edition.TheVariants.{First, Second}
 use Rattle.querygrammar.specs.Spelling.{Item, key_item, range_item, null_item, FswText, SwuText, key_only, fsw_item, swu_item, fsw_meaning, swu_meaning, open_of, unless, spelling}
 use Rattle.querygrammar.specs.Query.{Query, meaning, lists_of, sought_lists}
-use Rattle.queryitem.specs.Pieces.{item_of, has_null}
+use Rattle.queryitem.specs.Pieces.{item_of}
 use Rattle.query.specs.Reading.{query_of}
 use Rattle.query.specs.ReadingLaws.{Other, NoNull, FirstWithoutNull}
 use Rattle.query.proofs.Accepted.{query_read, prefix_holds, signbox_holds}
+
+-- whether null may be sought: in the prefix of the second edition
+abbrev has_null : Edition → Bool → Bool
+has_null First boxed = false
+has_null (Second set) boxed = not boxed
 
 -- no item is null where none may be
 abbrev Allowed : Edition → Bool → Item → Type 0

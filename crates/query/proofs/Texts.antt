@@ -3,18 +3,20 @@ use Prim.Native.Nat.{ℕ, ◌+◌, ◌≤◌}
 use mathlib.Core.List.{List, [], ◌∷◌, ◌++◌, map}
 use mathlib.Core.Path.{◌≡◌, refl, sym, ap, ◌∙◌}
 use mathlib.Core.Bool.{Bool, true, false, not, ◌&&◌, ◌||◌}
-use mathlib.Core.Option.{Option, some}
+use mathlib.Core.Option.{Option}
 use lib.ListN.{length, length-map, length-append}
 use lib.Seq.{sets}
 use native.Mathlib.Omega.{arith}
-use Rattle.format.specs.Format.{All, Format, optional, every}
+use Rattle.format.specs.Format.{Format, optional, every}
 use Rattle.format.specs.Places.{Outcome, fine, refused, ends_short}
-use Rattle.format.specs.Located.{Located, wrong_at, short_here, locate, and_then, on_found, ended}
+use Rattle.format.specs.Located.{Located, locate, and_then, on_found, ended}
 use Rattle.format.proofs.At.{got, sequence_at_got}
-use Rattle.format.proofs.Lists.{all_append}
 use Rattle.format.proofs.Ends.{on_fine, ended_on, reading_at}
-use Rattle.token.specs.Refusal.{text_wrong, text_short}
-use Rattle.token.specs.Result.{Result, refusal, done, of_outcome}
+use Rattle.std.specs.Prelude.{Result as Answer, Ok, Err, Option as Optional, ⊤}
+use Rattle.std.specs.Option.{option_or}
+use Rattle.token.specs.declared.refusal.Refusal.{Refusal}
+use Rattle.token.specs.Refusal.{text_wrong, text_short, number_of, place_of}
+use Rattle.token.specs.Result.{Result, refusal, done, outcome, of_outcome}
 use Rattle.token.proofs.Checks.{refusal_done}
 use Rattle.token.specs.Padded.{padded}
 use Rattle.querygrammar.specs.declared.Edition.{Edition}
@@ -26,15 +28,16 @@ use Rattle.querygrammar.proofs.Query.{optional_head_lawful, query_lawful}
 use Rattle.queryitem.specs.Words.{spare, rows_words, bare, words_of}
 use Rattle.querypart.specs.declared.items.Count.{Count}
 use Rattle.querypart.specs.Spots.{Spot, all_spots, first_reversed}
-use Rattle.querypart.specs.Inner.{first_of, or_earlier, item, few, all_few, all_words}
-use Rattle.querypart.proofs.Spots.{Inside, first_both, first_inside, spots_inside}
-use Rattle.querypart.proofs.Rows.{item_sorted}
-use Rattle.query.specs.declared.words.Head.{Head}
-use Rattle.query.specs.Reading.{head_lists, head_spots, spots_of, limited, query_of}
+use Rattle.querypart.specs.Inner.{first_of, item, few, all_few, all_words}
+use Rattle.querypart.proofs.Spots.{first_both}
+use Rattle.queryitem.proofs.Chains.{FailsAs}
+use Rattle.query.specs.Reading.{head_spots, spots_of, limited, query_of}
 use Rattle.query.specs.ReadingLaws.{meant}
-use Rattle.query.specs.Inner.{head_of, limits, TailIn, Asks, Leads, PrefixIn, ReadInto}
+use Rattle.query.specs.declared.words.Asked.{Asked}
+use Rattle.query.specs.Inner.{word_of, passed, limits, tail_limits, TailIn, Asks, Leads, HeadIn, ReadInto}
 use Rattle.query.proofs.Limits.{few_tells, limited_passed}
 use Rattle.query.proofs.Putting.{query_put, limits_same}
+use Rattle.query.proofs.Tails.{of_fails}
 
 -- WHAT THE LOOPS COUNT IS WHAT THE QUERY MEANS
 
@@ -68,20 +71,11 @@ module _ (e : Edition) (h : Option (HeadText (spelling e).Says)) (t : TailText (
   abbrev tails : ℕ → List Spot
   tails i = all_spots (item e true).format (item e true).spots i t.0
 
-  heads_inside : All Inside heads
-  heads_inside = spots_inside (item e false).format (item e false).spots (item_sorted e false).inside 2 (head_lists h) (omega arith)
-
-  -- no reversed range stands at 0
-  spots_least : first_reversed (spots_of (spelling e) (h, t)) ≡ some 0 → ⊥
-  spots_least =
-      let i = 1 + length ((optional (head (spelling e))).write h) in
-      first_inside (heads ++ tails i) (all_append Inside heads (tails i) heads_inside (spots_inside (item e true).format (item e true).spots (item_sorted e true).inside i t.0 (omega arith)))
-
-  spots_first : (i earlier : ℕ) → i ≡ 1 + length ((optional (head (spelling e))).write h) → earlier ≡ first_of heads
-      → or_earlier earlier (first_of (tails i)) ≡ first_of (spots_of (spelling e) (h, t))
+  spots_first : (i : ℕ) (earlier : Optional ℕ) → i ≡ 1 + length ((optional (head (spelling e))).write h) → earlier ≡ first_of heads
+      → option_or earlier (first_of (tails i)) ≡ first_of (spots_of (spelling e) (h, t))
   spots_first i earlier x f =
       let n = 1 + length ((optional (head (spelling e))).write h) in
-      (λ j. or_earlier (f j) (first_of (tails (x j)))) ∙ sym (first_both heads (tails n) heads_inside)
+      (λ j. option_or (f j) (first_of (tails (x j)))) ∙ sym (first_both heads (tails n))
 
 -- THE WHOLE TEXT
 
@@ -111,25 +105,28 @@ module _ (e : Edition) (s : List ℕ) where
   pub query_read : read_query e s ≡ ended 1 (length s) (locate sp s 0)
   query_read = reading_at 1 sp (query_lawful (spelling e) (lawful e)) s
 
-  text_refused : (room n p : ℕ) (h : Head) (w : List ℕ) → says ≡ refusal n p → h ≡ record { number = n; place = p } → ReadInto e s room h w
+  text_refused : (room : ℕ) (d : Refusal) (w : List ℕ) → says ≡ refusal (number_of d) (place_of d) → ReadInto e s room (Err d) w
   unfolding query_of
-  text_refused room n p h w x q = record { is = q ∙ rw x refl; holds = λ k y. refusal_done n p (sym (rw x refl) ∙ y) }
+  text_refused room d w x = record { is = rw x refl; holds = λ k y. refusal_done (number_of d) (place_of d) (sym (rw x refl) ∙ y) }
 
-  pub text_wrong_lem : (room p : ℕ) (h : Head) (w : List ℕ) → locate sp s 0 ≡ wrong_at p → h ≡ record { number = text_wrong; place = p } → ReadInto e s room h w
-  text_wrong_lem room p h w x = text_refused room text_wrong p h w (ap (of_outcome (length s)) (query_read ∙ ap (ended 1 (length s)) x))
+  pub text_fails : (room : ℕ) (d : Refusal) (w : List ℕ) → FailsAs (length s) (locate sp s 0) d → ReadInto e s room (Err d) w
+  text_fails room d w f = text_refused room d w (ap (of_outcome (length s)) query_read ∙ of_fails (length s) (locate sp s 0) d f)
 
-  pub text_cut : (room : ℕ) (h : Head) (w : List ℕ) → locate sp s 0 ≡ short_here → h ≡ record { number = text_short; place = length s } → ReadInto e s room h w
-  text_cut room h w x = text_refused room text_short (length s) h w (ap (of_outcome (length s)) (query_read ∙ ap (ended 1 (length s)) x))
-
-  text_fine : (room : ℕ) (t : Text e) (h : Head) (w : List ℕ) → read_query e s ≡ fine t → h ≡ head_of (limited (meant e t) (first_reversed (spots_of (spelling e) t)))
-      → (every few (lists_of (meant e t).prefix) ≡ true → h.number ≡ 0 → length (words_of (meant e t)) + spare ≤ room → w ≡ padded room (words_of (meant e t))) → ReadInto e s room h w
+  -- what is answered comes to the refusal of the text
+  text_not : (room n p : ℕ) (r : Answer ⊤ Refusal) (w : List ℕ) → says ≡ refusal n p → outcome r ≡ refusal n p → ReadInto e s room r w
   unfolding query_of
-  text_fine room t h w x q put = record {
+  text_not room n p r w x q = record { is = q ∙ rw x refl; holds = λ k y. refusal_done n p (sym (rw x refl) ∙ y) }
+
+  text_fine : (room : ℕ) (t : Text e) (r : Answer ⊤ Refusal) (w : List ℕ) → read_query e s ≡ fine t → outcome r ≡ passed (limited (meant e t) (first_reversed (spots_of (spelling e) t)))
+      → (every few (lists_of (meant e t).prefix) ≡ true → passed (limited (meant e t) (first_reversed (spots_of (spelling e) t))) ≡ done tt → length (words_of (meant e t)) + spare ≤ room → w ≡ padded room (words_of (meant e t)))
+      → ReadInto e s room r w
+  unfolding query_of
+  text_fine room t r w x q put = record {
     is = q ∙ rw x refl;
     holds = λ k y m.
         let l : limited (meant e t) (first_reversed (spots_of (spelling e) t)) ≡ done k = sym (rw x refl) ∙ y in
         let p = limited_passed (meant e t) k (first_reversed (spots_of (spelling e) t)) l in
-        put ((few_tells (lists_of (meant e t).prefix)).1 p.alternatives_fit.0) (ap (λ h. h.number) (q ∙ ap head_of l)) (rw p.same m) ∙ ap (λ k. padded room (words_of k)) p.same;
+        put ((few_tells (lists_of (meant e t).prefix)).1 p.alternatives_fit.0) (ap passed l) (rw p.same m) ∙ ap (λ k. padded room (words_of k)) p.same;
   }
 
   module _ (asks : Asks e s) where
@@ -139,42 +136,41 @@ module _ (e : Edition) (s : List ℕ) where
     pub query_at : locate sp s 0 ≡ and_then (locate opening s 1) goes
     query_at = asks.is ∙ sequence_at_got opening (λ h. ending) s 1 (got 1 opening (optional_head_lawful (spelling e) (lawful e)) s 1 asks.room)
 
-    module _ (h : Option (HeadText (spelling e).Says)) (kind room : ℕ) (c : Count) (o : List ℕ) (r : Head) (p : List ℕ) (k : Leads e s h kind room c o) (size : length o ≡ room) (v : TailIn e s kind c o r p) where
-      offset : c.place ≡ 1 + length (opening.write h)
-      offset = (got 1 opening (optional_head_lawful (spelling e) (lawful e)) s 1 asks.room h c.place k.is).size
+    module _ (h : Option (HeadText (spelling e).Says)) (kind room : ℕ) (c : Count) (o : List ℕ) (r : Answer ⊤ Refusal) (p : List ℕ) (k : Leads e s h kind room c o) (size : length o ≡ room) (v : TailIn e s kind c o r p) where
+      offset : c.next ≡ 1 + length (opening.write h)
+      offset = (got 1 opening (optional_head_lawful (spelling e) (lawful e)) s 1 asks.room h c.next k.is).size
 
-      whole : read_query e s ≡ on_fine (λ t. (h, t)) (ended 1 (length s) (locate ending s c.place))
-      whole = query_read ∙ ap (ended 1 (length s)) (query_at ∙ ap (λ l. and_then l goes) k.is) ∙ ended_on 1 (length s) (λ t. (h, t)) (locate ending s c.place)
+      whole : read_query e s ≡ on_fine (λ t. (h, t)) (ended 1 (length s) (locate ending s c.next))
+      whole = query_read ∙ ap (ended 1 (length s)) (query_at ∙ ap (λ l. and_then l goes) k.is) ∙ ended_on 1 (length s) (λ t. (h, t)) (locate ending s c.next)
 
-      tail-go : (u : Outcome (TailText (spelling e).Says)) → ended 1 (length s) (locate ending s c.place) ≡ u → ReadInto e s room r p
+      tail-go : (u : Outcome (TailText (spelling e).Says)) → ended 1 (length s) (locate ending s c.next) ≡ u → ReadInto e s room r p
       unfolding on_fine
       tail-go (fine t) x =
           let q = meant e (h, t) in
           let n : length t.0 ≡ length q.items = sym (length-map t.0 (sought_of (spelling e).means)) in
           let full : Bool = c.crowded || not (all_few (item e true) t.0) in
-          let is : r ≡ head_of (limits c.count (length t.0) full (or_earlier c.reversed (first_of (tails e h t c.place)))) = v.is ∙ rw x refl in
           let crowd : not full ≡ every few (lists_of q.prefix) && every few (sought_lists q) =
           (λ j. not (k.crowd j || not (signbox_few e t.0 j))) ∙ not_or (every few (lists_of q.prefix)) (every few (sought_lists q)) in
-          text_fine room (h, t) r p (whole ∙ ap (on_fine (λ t. (h, t))) x)
-          (is ∙ (λ j. head_of (limits (k.count j) (n j) full (spots_first e h t c.place c.reversed offset k.first j)))
-          ∙ limits_same q (first_reversed (spots_of (spelling e) (h, t))) full crowd (spots_least e h t))
+          let same : tail_limits e c t ≡ passed (limited q (first_reversed (spots_of (spelling e) (h, t)))) =
+          (λ j. limits (k.count j) (n j) full (spots_first e h t c.next c.reversed offset k.first j)) ∙ limits_same q (first_reversed (spots_of (spelling e) (h, t))) full crowd in
+          text_fine room (h, t) r p (whole ∙ ap (on_fine (λ t. (h, t))) x) (v.is ∙ rw x refl ∙ same)
           (λ few z m.
           let fits = words_split q in
           let rows = signbox_words e t.0 in
           let held = k.held few (omega (arith, fits, m)) in
-          v.holds t x z (rw rows (omega (arith, fits, m, size, held.1)))
+          v.holds t x (same ∙ z) (rw rows (omega (arith, fits, m, size, held.1)))
           ∙ (λ j. sets (sets o c.row (rows j)) 0 (k.kinds j ∷ c.count ∷ n j ∷ q.variance ∷ []))
           ∙ query_put room q c.count c.row o (omega (arith, fits, m)) k.count held.0 held.1)
-      tail-go (refused q) x = text_refused room text_wrong q r p (ap (of_outcome (length s)) (whole ∙ ap (on_fine (λ t. (h, t))) x)) (v.is ∙ rw x refl)
-      tail-go ends_short x = text_refused room text_short (length s) r p (ap (of_outcome (length s)) (whole ∙ ap (on_fine (λ t. (h, t))) x)) (v.is ∙ rw x refl)
+      tail-go (refused q) x = text_not room text_wrong q r p (ap (of_outcome (length s)) (whole ∙ ap (on_fine (λ t. (h, t))) x)) (v.is ∙ rw x refl)
+      tail-go ends_short x = text_not room text_short (length s) r p (ap (of_outcome (length s)) (whole ∙ ap (on_fine (λ t. (h, t))) x)) (v.is ∙ rw x refl)
 
       text-tail : ReadInto e s room r p
-      text-tail = tail-go (ended 1 (length s) (locate ending s c.place)) refl
+      text-tail = tail-go (ended 1 (length s) (locate ending s c.next)) refl
 
     -- after what asks for a prefix
-    module _ (kind room : ℕ) (c : Count) (o : List ℕ) (v : PrefixIn e s kind room c o) where
-      pub text-failed : (h : Head) (w : List ℕ) → (c.number ≡ 0 → ⊥) → h ≡ record { number = c.number; place = c.place } → ReadInto e s room h w
-      text-failed h w z = text_refused room c.number c.place h w (v.failed z)
+    module _ (room : ℕ) (r : Answer (Asked × Count) Refusal) (o : List ℕ) (v : HeadIn e s room r o) where
+      pub text-failed : (d : Refusal) (w : List ℕ) → r ≡ Err d → ReadInto e s room (Err d) w
+      text-failed d w z = text_refused room d w (v.failed d z)
 
-      pub text_read : (h : Head) (w : List ℕ) → c.number ≡ 0 → TailIn e s kind c o h w → ReadInto e s room h w
-      text_read h w z t = let l = v.leads z in text-tail l.0 kind room c o h w l.1 v.size t
+      pub text_read : (asked : Asked) (c : Count) (h : Answer ⊤ Refusal) (w : List ℕ) → r ≡ Ok (asked, c) → TailIn e s (word_of asked) c o h w → ReadInto e s room h w
+      text_read asked c h w z t = let l = (v.leads asked c z).leads c refl in text-tail l.0 (word_of asked) room c o h w l.1 v.size t

@@ -1,10 +1,11 @@
 -- What reading a query answers: first what the text says, then the limits, then the order of ranges, then the record
 -- with its words (document 01, "A query" and "Refusal numbers"; document 02, Q-9).
-use Rattle.std.specs.Prelude.{ℕ, ◌+◌, List, [], ◌∷◌, ◌++◌, ◌&&◌, leb, length}
+use Rattle.std.specs.Prelude.{Result as Answer, Ok, Err, ℕ, ◌+◌, List, [], ◌∷◌, ◌++◌, ◌&&◌, leb, length}
 use Rattle.std.proofs.Common.{inl, inr}
 use Rattle.std.proofs.Math.Option.{Option, none, some}
 use Rattle.format.specs.Format.{optional, every}
-use Rattle.token.specs.Refusal.{prefix_long, signbox_long, alternatives_long, range_reversed}
+use Rattle.token.specs.declared.refusal.Refusal.{Refusal}
+use Rattle.token.specs.Refusal.{prefix_long, signbox_long, alternatives_long, range_reversed, number_of, place_of}
 use Rattle.token.specs.Result.{Result, refusal, done, check, and_then, of_outcome}
 use Rattle.token.specs.Padded.{padded, zeros}
 use Rattle.querygrammar.specs.declared.Edition.{Edition}
@@ -14,7 +15,6 @@ use Rattle.querygrammar.specs.QueryLaws.{read_query}
 use Rattle.queryitem.specs.Words.{word_count, words_of}
 use Rattle.querypart.specs.Spots.{Spot, all_spots, list_spots, first_reversed}
 use Rattle.querypart.specs.Inner.{few}
-use Rattle.query.specs.declared.Reading.{Reading}
 
 -- WHERE THE ITEMS STAND: those of the prefix after Q and A, those of the signbox after Q and what asks for a prefix
 
@@ -57,8 +57,18 @@ Asked = Edition × List ℕ
 abbrev pub query_asked : Asked → Result Query
 query_asked a = query_of a.0 a.1
 
--- THE RECORD
+-- THE RECORD: a reading as numbers, with zeros for words where it is refused
+
+pub record Reading : Type 0 where
+  pub number : ℕ
+  pub place : ℕ
+  pub words : List ℕ
 
 unfoldable pub reading_of : Result Query → Reading
 reading_of (refusal number place) = record { number = number; place = place; words = zeros word_count }
 reading_of (done q) = record { number = 0; place = 0; words = padded word_count (words_of q) }
+
+-- and by the function that makes it
+abbrev pub as_reading : Answer (List ℕ) Refusal → Reading
+as_reading (Ok words) = record { number = 0; place = 0; words = words }
+as_reading (Err e) = record { number = number_of e; place = place_of e; words = zeros word_count }

@@ -1,15 +1,15 @@
--- An item in each edition of FSW, and what a caller knows of what it is answered.
-use Prim.Native.Nat.{ℕ, ◌≤◌}
+-- What a caller knows of an item and of a coordinate, as they are answered.
+use Prim.Native.Nat.{ℕ}
 use mathlib.Core.List.{List}
-use mathlib.Core.Path.{◌≡◌, refl, sym}
-use mathlib.Core.Bool.{Bool, true, false, true≢false}
+use mathlib.Core.Path.{◌≡◌, refl}
+use mathlib.Core.Bool.{Bool, true, false, not}
+use mir.Val.{bool_byte}
 use mathlib.Core.Option.{Option}
 use lib.ListN.{length}
-use native.Mathlib.Omega.{arith}
 use Rattle.format.specs.Format.{optional}
 use Rattle.format.specs.Located.{Located, found, wrong_at, short_here, locate, on_found}
 use Rattle.charset.specs.declared.Charset.TheVariants.{Fsw, Swu}
-use Rattle.token.specs.Result.{of_located}
+use Rattle.token.specs.Result.{outcome, of_located}
 use Rattle.querygrammar.specs.declared.Edition.{Edition}
 use Rattle.querygrammar.specs.declared.Edition.TheVariants.{First, Second}
 use Rattle.querygrammar.specs.Spelling.{spelling}
@@ -17,32 +17,26 @@ use Rattle.querygrammar.specs.Query.{coordinate}
 use Rattle.querygrammar.proofs.Lists.{Laws, Unmarked}
 use Rattle.querygrammar.proofs.Items.{lawful}
 use Rattle.queryitem.specs.declared.reading.Numbers.{Numbers}
-use Rattle.queryitem.specs.declared.reading.Piece.{Piece}
-use Rattle.queryitem.specs.declared.reading.Piece.TheVariants.{Found, Wrong, Short}
-use Rattle.queryitem.specs.declared.coordinate.Place.{Place}
-use Rattle.queryitem.specs.declared.coordinate.Place.TheVariants as place
-use Rattle.queryitem.specs.Numbers.{numbers_of, x_of, y_of}
-use Rattle.queryitem.specs.Pieces.{told_piece, piece_at, fsw_at, swu_at, item_of, in_swu, has_null, least_of, item_at, told_place, coordinate_at, piece_result, place_result, PieceResult, PlaceResult}
+use Rattle.std.specs.Prelude.{Ok, Err, Result as Answer, Option as Optional}
+use Rattle.token.specs.declared.refusal.Refusal.{Refusal}
+use Rattle.queryitem.specs.Numbers.{optionally, numbers_of}
+use Rattle.queryitem.specs.Pieces.{told_piece, Piece, piece_at, fsw_at, swu_at, item_of, item_at, coordinate_at, PieceResult, PlaceResult}
+use Rattle.queryitem.proofs.Chains.{FailsAs}
 
-pub item_fsw : (e : Edition) (boxed : Bool) (s : List ℕ) (at : ℕ) (r : Piece) → in_swu e ≡ false → r ≡ fsw_at (has_null e boxed) s at → r ≡ item_at e boxed s at
+pub item_first : (boxed : Bool) (s : List ℕ) (at : ℕ) → fsw_at false s at ≡ item_at First boxed s at
 unfolding item_at
-item_fsw First true s at r n q = q
-item_fsw First false s at r n q = q
-item_fsw (Second Fsw) true s at r n q = q
-item_fsw (Second Fsw) false s at r n q = q
-item_fsw (Second Swu) boxed s at r n q = absurd (true≢false n)
+item_first true s at = refl
+item_first false s at = refl
 
-pub item_swu : (e : Edition) (boxed : Bool) (s : List ℕ) (at : ℕ) (r : Piece) → in_swu e ≡ true → r ≡ swu_at (least_of boxed) s at → r ≡ item_at e boxed s at
+pub item_fsw : (boxed : Bool) (s : List ℕ) (at : ℕ) → fsw_at (not boxed) s at ≡ item_at (Second Fsw) boxed s at
 unfolding item_at
-item_swu First boxed s at r y q = absurd (true≢false (sym y))
-item_swu (Second Fsw) boxed s at r y q = absurd (true≢false (sym y))
-item_swu (Second Swu) true s at r y q = q
-item_swu (Second Swu) false s at r y q = q
+item_fsw true s at = refl
+item_fsw false s at = refl
 
--- the least code is 0 or 1
-pub least_most : (boxed : Bool) → least_of boxed ≤ 1
-least_most true = omega arith
-least_most false = omega arith
+pub item_swu : (boxed : Bool) (s : List ℕ) (at : ℕ) → swu_at (bool_byte boxed) s at ≡ item_at (Second Swu) boxed s at
+unfolding item_at
+item_swu true s at = refl
+item_swu false s at = refl
 
 pub item_laws : (e : Edition) (boxed : Bool) → Laws Unmarked (item_of (spelling e) boxed)
 item_laws e true = (lawful e).signbox_item
@@ -63,59 +57,51 @@ module _ (e : Edition) (boxed : Bool) (s : List ℕ) (at : ℕ) where
     pub means : n ≡ numbers says
 
   abbrev pub ItemLocated : Piece → Type 0
-  ItemLocated (Found n next) = FoundItem n next
-  ItemLocated (Wrong p) = located ≡ wrong_at p
-  ItemLocated Short = located ≡ short_here
+  ItemLocated (Ok p) = FoundItem p.0 p.1
+  ItemLocated (Err r) = FailsAs (length s) located r
 
   pub item_located : (r : Piece) → r ≡ item_at e boxed s at → ItemLocated r
   unfolding item_at piece_at
   item_located r q = rw q (go located refl)
     where
-      go : (l : Located (spelling e).Says) → located ≡ l → ItemLocated (told_piece (on_found numbers l))
+      go : (l : Located (spelling e).Says) → located ≡ l → ItemLocated (told_piece (length s) (on_found numbers l))
       go (found a i) z = record { says = a; is = z; means = refl }
-      go (wrong_at p) z = z
-      go short_here z = z
+      go (wrong_at p) z = rw z refl
+      go short_here z = rw z refl
 
 module _ (e : Edition) (s : List ℕ) (at : ℕ) where
   abbrev placed : Located (Option (ℕ × ℕ))
   placed = locate (optional (coordinate (spelling e))) s at
 
-  pub record FoundPlace (x y next : ℕ) : Type 0 where
+  pub record FoundPlace (c : Optional (ℕ × ℕ)) (next : ℕ) : Type 0 where
     pub says : Option (ℕ × ℕ)
     pub is : placed ≡ found says next
-    pub first : x ≡ x_of says
-    pub second : y ≡ y_of says
+    pub means : c ≡ optionally says
 
-  abbrev pub PlaceLocated : Place → Type 0
-  PlaceLocated (place.Found x y next) = FoundPlace x y next
-  PlaceLocated (place.Wrong p) = placed ≡ wrong_at p
-  PlaceLocated place.Short = placed ≡ short_here
+  abbrev pub PlaceLocated : Answer (Optional (ℕ × ℕ) × ℕ) Refusal → Type 0
+  PlaceLocated (Ok p) = FoundPlace p.0 p.1
+  PlaceLocated (Err r) = FailsAs (length s) placed r
 
-  pub place_located : (r : Place) → r ≡ coordinate_at e s at → PlaceLocated r
+  pub place_located : (r : Answer (Optional (ℕ × ℕ) × ℕ) Refusal) → r ≡ coordinate_at e s at → PlaceLocated r
   unfolding coordinate_at
   place_located r q = rw q (go placed refl)
     where
-      go : (l : Located (Option (ℕ × ℕ))) → placed ≡ l → PlaceLocated (told_place l)
-      go (found p i) z = record { says = p; is = z; first = refl; second = refl }
-      go (wrong_at p) z = z
-      go short_here z = z
+      go : (l : Located (Option (ℕ × ℕ))) → placed ≡ l → PlaceLocated (told_piece (length s) (on_found optionally l))
+      go (found p i) z = record { says = p; is = z; means = refl }
+      go (wrong_at p) z = rw z refl
+      go short_here z = rw z refl
 
 -- WHAT THEY COME TO
 
+come : {A : Type 0} (size : ℕ) (l : Located A) → outcome (told_piece size l) ≡ of_located size l
+come size (found n next) = refl
+come size (wrong_at p) = refl
+come size short_here = refl
+
 pub piece_result_lem : PieceResult
 unfolding item_at piece_at
-piece_result_lem e boxed s at = go (on_found (λ a. numbers_of ((spelling e).means a)) (locate (item_of (spelling e) boxed) s at))
-  where
-    go : (l : Located Numbers) → piece_result (length s) (told_piece l) ≡ of_located (length s) l
-    go (found n next) = refl
-    go (wrong_at p) = refl
-    go short_here = refl
+piece_result_lem e boxed s at = come (length s) (on_found (λ a. numbers_of ((spelling e).means a)) (locate (item_of (spelling e) boxed) s at))
 
 pub place_result_lem : PlaceResult
 unfolding coordinate_at
-place_result_lem e s at = go (locate (optional (coordinate (spelling e))) s at)
-  where
-    go : (l : Located (Option (ℕ × ℕ))) → place_result (length s) (told_place l) ≡ of_located (length s) (on_found (λ p. (x_of p, y_of p)) l)
-    go (found p next) = refl
-    go (wrong_at p) = refl
-    go short_here = refl
+place_result_lem e s at = come (length s) (on_found optionally (locate (optional (coordinate (spelling e))) s at))

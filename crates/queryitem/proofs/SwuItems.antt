@@ -2,14 +2,14 @@
 use Prim.Native.Nat.{ℕ, zero, suc, ◌+◌, ◌-◌, ◌/◌, ◌%◌, ◌≤◌, ◌<◌}
 use mathlib.Core.List.{List}
 use mathlib.Core.Path.{◌≡◌, refl, sym, ap, ◌∙◌}
-use mathlib.Core.Bool.{Bool, true, false, not}
+use mathlib.Core.Bool.{Bool, true, false}
 use mathlib.Core.Logic.{◌⊎◌, inl, inr}
-use mathlib.Core.Option.{Option, none, some}
+use mathlib.Core.Option.{Option, none}
 use lib.Dec.{eqb}
 use lib.ListN.{length, drop, get_or, length-drop, drop_of_length-le}
 use lib.Seq.{drop-cons}
 use native.Mathlib.Omega.{arith}
-use borrow.Author.Tests.{eqb-true, eq-eqb, not-true, not-false}
+use borrow.Author.Tests.{eqb-true, eq-eqb}
 use Rattle.format.specs.Format.{Answer, value, other, wrong, short, Format, optional, either, or_else}
 use Rattle.format.specs.Located.{found, located, locate, and_then, on_found}
 use Rattle.format.proofs.Parts.{optional_lawful}
@@ -19,20 +19,18 @@ use Rattle.charset.specs.Bytes.{byte}
 use Rattle.charset.specs.Tokens.{parts_of}
 use Rattle.charset.proofs.Units.{byte_delimited}
 use Rattle.charset.proofs.FixedByte.{byte_other, after_byte}
-use Rattle.token.specs.declared.reading.Token.{Token}
-use Rattle.token.specs.declared.reading.Token.TheVariants as token
+use Rattle.std.specs.Prelude.{Result as Answered, Ok, Err, Option as Optional, Some, None}
+use Rattle.token.specs.declared.refusal.Refusal.{Refusal}
+use Rattle.token.specs.declared.refusal.Refusal.TheVariants.{TextShort}
 use Rattle.token.specs.Token.{token_at}
 use Rattle.token.proofs.Told.{Told, told_at}
 use Rattle.querygrammar.specs.Scalar.{scalar}
 use Rattle.querygrammar.specs.Spelling.{key_item, null_item, marks, swu_symbol, swu_ends, swu_range, SwuText, swu_item, swu_meaning, unless}
 use Rattle.querygrammar.proofs.Items.{scalar_delimited, symbol_other}
 use Rattle.queryitem.specs.declared.reading.Numbers.{Numbers}
-use Rattle.queryitem.specs.declared.reading.Piece.{Piece}
-use Rattle.queryitem.specs.declared.reading.Piece.TheVariants.{Found, Short}
-use Rattle.queryitem.specs.Numbers.{numbers_of}
-use Rattle.queryitem.specs.Pieces.{piece_at, given, mark, past, Marked, marked_numbers, marks_at, swu_range_at, swu_at}
+use Rattle.queryitem.specs.Numbers.{plain, numbers_of}
+use Rattle.queryitem.specs.Pieces.{Piece, piece_at, mark, past, Marked, marked_numbers, marks_at, swu_range_at, swu_at}
 use Rattle.queryitem.proofs.Chains.{found_piece, piece_fails, piece_is, second_piece}
-use Rattle.queryitem.proofs.Digits.{given_one, given_some}
 
 -- MARKS
 
@@ -51,13 +49,10 @@ module _ (b : ℕ) (s : List ℕ) (at : ℕ) where
   pub stands_here : at < length s → Marked b s at (eqb (get_or s at 0) b)
   stands_here h = stands_go h (eqb (get_or s at 0) b) refl
 
--- what a digit is set to, where no mark stands: its own value, and else one more than the most
-pub unmarked : {T E : Type 0} {own m any : ℕ} (b top : ℕ) (stands : Bool) → (T × (m ≡ own)) ⊎ (E × (m ≡ any)) → (T → not stands ≡ true) → (E → not stands ≡ false) → own ≤ top → any ≡ top + 1
-    → (given top m ≡ unless (mark b stands) own) × (m ≤ top + 1)
-unmarked {m = m} b top stands (inl w) t e k z =
-    rw (not-true stands (t w.0)) (given_some top m (λ y. omega (arith, w.1)) ∙ ap some w.1, omega (arith, w.1))
-unmarked {m = m} b top stands (inr w) t e k z =
-    rw (not-false stands (e w.0)) (given_one top m (w.1 ∙ z), omega (arith, w.1))
+-- what is left open where its mark stands
+pub unmarked : (b own : ℕ) (stands : Bool) (o : Optional ℕ) → ((stands ≡ true) × (o ≡ None)) ⊎ ((stands ≡ false) × (o ≡ Some own)) → plain o ≡ unless (mark b stands) own
+unmarked b own stands o (inl w) = rw (w.0, w.1)
+unmarked b own stands o (inr w) = rw (w.0, w.1)
 
 pub marked_is : (code base : ℕ) (fill rotation : Option ℕ) (fills rotations : Bool) (n : Numbers) → 1 ≤ code → base ≡ (parts_of code).0 → fill ≡ unless (mark 102 fills) ((parts_of code).1 / 16)
     → rotation ≡ unless (mark 114 rotations) ((parts_of code).1 % 16) → n ≡ numbers_of (key_item base fill rotation) → n ≡ marked_numbers code fills rotations
@@ -66,7 +61,7 @@ marked_is zero base fill rotation fills rotations n h b f r q = absurd (omega ar
 marked_is (suc c) base fill rotation fills rotations n h b f r q = q ∙ (λ i. numbers_of (key_item (b i) (f i) (r i)))
 
 module _ (s : List ℕ) (at : ℕ) (h : at ≤ length s) (n : Numbers) where
-  pub marks_null : (code : ℕ) → code ≡ 0 → n ≡ numbers_of null_item → Found n at ≡ marks_at code s at
+  pub marks_null : (code : ℕ) → code ≡ 0 → n ≡ numbers_of null_item → Ok (n, at) ≡ marks_at code s at
   unfolding locate
   marks_null zero e q = found_piece (marks 0) (λ m. numbers_of null_item) s at (none, none) (length s - length (drop at s)) at n refl (omega (arith, length-drop at s)) q
   marks_null (suc c) e q = absurd (omega arith)
@@ -77,7 +72,7 @@ module _ (s : List ℕ) (at : ℕ) (h : at ≤ length s) (n : Numbers) where
       ∙ ap (λ l. and_then l λ a i. on_found {B = Option ℕ × Option ℕ} (λ b. (a, b)) (locate (optional (byte 114)) s i)) (u.is ∙ ap (found (mark 102 f)) (sym z))
       ∙ ap (on_found {B = Option ℕ × Option ℕ} (λ b. (mark 102 f, b))) v.is
 
-  pub marks_found : (code : ℕ) → (code ≡ 0 → ⊥) → (f g : Bool) (i j : ℕ) → Marked 102 s at f → i ≡ past f at → Marked 114 s i g → j ≡ past g i → n ≡ marked_numbers code f g → Found n j ≡ marks_at code s at
+  pub marks_found : (code : ℕ) → (code ≡ 0 → ⊥) → (f g : Bool) (i j : ℕ) → Marked 102 s at f → i ≡ past f at → Marked 114 s i g → j ≡ past g i → n ≡ marked_numbers code f g → Ok (n, j) ≡ marks_at code s at
   unfolding marked_numbers
   marks_found zero z f g i j u y v x q = absurd (z refl)
   marks_found (suc c) z f g i j u y v x q =
@@ -85,7 +80,7 @@ module _ (s : List ℕ) (at : ℕ) (h : at ≤ length s) (n : Numbers) where
 
 -- A CHARACTER
 
-pub character_told : (least : ℕ) → least ≤ 1 → (s : List ℕ) (i c : ℕ) (t : Token) → t ≡ token_at (scalar 0x40000 least 62592) s i → t ≡ token.Value c → Told 4 (scalar 0x40000 least 62592) s i c
+pub character_told : (least : ℕ) → least ≤ 1 → (s : List ℕ) (i c : ℕ) (t : Answered ℕ Refusal) → t ≡ token_at (scalar 0x40000 least 62592) s i → t ≡ Ok c → Told 4 (scalar 0x40000 least 62592) s i c
 character_told least k s i c t e v =
     told_at 1 4 (scalar 0x40000 least 62592) (record { delimited = scalar_delimited 0x40000 least 62592 (omega arith) (omega arith); size = λ v ok. refl }) s i c (sym e ∙ v)
 
@@ -106,9 +101,9 @@ module _ (least : ℕ) (k : least ≤ 1) (s : List ℕ) (at : ℕ) where
   abbrev numbers : SwuText → Numbers
   numbers a = numbers_of (swu_meaning a)
 
-  pub item_end : length s ≤ at → Short ≡ swu_at least s at
+  pub item_end : length s ≤ at → Err (TextShort (length s)) ≡ swu_at least s at
   unfolding locate
-  item_end h = piece_fails (swu_item least) numbers s at Short (rw (drop_of_length-le s h) refl)
+  item_end h = piece_fails (swu_item least) numbers s at (TextShort (length s)) (rw (drop_of_length-le s h) refl)
 
   pub item_range : at < length s → get_or s at 0 ≡ 82 → (r : Piece) → r ≡ swu_range_at s at → r ≡ swu_at least s at
   item_range h e r =

@@ -1,5 +1,5 @@
 -- How an item becomes three numbers (document 01, "Symbols and numbers" and "A query"; document 02, Q-9).
-use Rattle.std.specs.Prelude.{ℕ, ◌+◌, ◌-◌, ◌*◌, ◌%◌}
+use Rattle.std.specs.Prelude.{Option as Optional, Some, None, ℕ, ◌+◌, ◌-◌, ◌*◌, ◌%◌}
 use Rattle.std.proofs.Math.Option.{Option, none, some}
 use Rattle.querygrammar.specs.Spelling.{Item, key_item, range_item, null_item}
 use Rattle.queryitem.specs.declared.reading.Numbers.{Numbers}
@@ -34,6 +34,15 @@ remainder null_item = 16
 
 abbrev pub numbers_of : Item → Numbers
 numbers_of i = record { lo = lowest i; hi = highest i; turn = remainder i }
+
+-- What may be open or absent is `Option` in the formats, and Rust's in the functions.
+abbrev pub optionally : {A : Type 0} → Option A → Optional A
+optionally none = None
+optionally (some a) = Some a
+
+abbrev pub plain : {A : Type 0} → Optional A → Option A
+plain None = none
+plain (Some a) = some a
 
 -- The coordinate, which is never 0: where there is none, x and y are 0.
 abbrev pub x_of : Option (ℕ × ℕ) → ℕ

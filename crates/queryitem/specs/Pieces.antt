@@ -1,65 +1,51 @@
 -- What a function that reads an item, or a part of one, at an offset of a text answers, and what each answer comes to.
-use Rattle.std.specs.Prelude.{ℕ, ◌+◌, ◌≤◌, ◌≡◌, List, Bool, true, false, not, ◌⊎◌, eqb, length}
+use Rattle.std.specs.Prelude.{Result as Answer, Ok, Err, Option as Optional, ℕ, ◌+◌, ◌≤◌, ◌≡◌, List, Bool, true, false, ◌⊎◌, length}
 use Rattle.std.proofs.Common.{inl, inr}
 use Rattle.std.proofs.Math.Option.{Option, none, some}
-use Rattle.format.specs.Format.{Format, choose, optional}
+use Rattle.format.specs.Format.{Format, optional}
 use Rattle.format.specs.Located.{Located, found, wrong_at, short_here, locate, on_found}
 use Rattle.charset.specs.declared.Charset.TheVariants.{Fsw, Swu}
 use Rattle.charset.specs.Bytes.{byte}
-use Rattle.charset.specs.Tokens.{null}
-use Rattle.token.specs.declared.reading.Token.{Token}
-use Rattle.token.specs.declared.reading.Token.TheVariants as token
-use Rattle.token.specs.Token.{told, token_at}
-use Rattle.token.specs.Refusal.{text_wrong, text_short}
-use Rattle.token.specs.Result.{Result, refusal, done, of_located}
+use Rattle.token.specs.declared.refusal.Refusal.{Refusal}
+use Rattle.token.specs.declared.refusal.Refusal.TheVariants.{TextWrong, TextShort}
+use Rattle.token.specs.Token.{told}
+use Rattle.token.specs.Result.{outcome, of_located}
 use Rattle.querygrammar.specs.declared.Edition.{Edition}
 use Rattle.querygrammar.specs.declared.Edition.TheVariants.{First, Second}
-use Rattle.querygrammar.specs.Spelling.{KeyText, or_any, key_only, null_or_key, fsw_item, fsw_meaning, marks, swu_range, swu_item, swu_meaning, Spelling, spelling}
+use Rattle.querygrammar.specs.Spelling.{KeyText, or_any, open_of, key_only, null_or_key, fsw_item, fsw_meaning, marks, swu_range, swu_item, swu_meaning, Spelling, spelling}
 use Rattle.querygrammar.specs.Query.{coordinate}
 use Rattle.queryitem.specs.declared.reading.Numbers.{Numbers}
-use Rattle.queryitem.specs.declared.reading.Piece.{Piece}
-use Rattle.queryitem.specs.declared.reading.Piece.TheVariants.{Found, Wrong, Short}
-use Rattle.queryitem.specs.declared.coordinate.Place.{Place}
-use Rattle.queryitem.specs.declared.coordinate.Place.TheVariants as place
-use Rattle.queryitem.specs.Numbers.{numbers_of, x_of, y_of}
+use Rattle.queryitem.specs.Numbers.{optionally, numbers_of}
 
--- a part that is no value
-unfoldable pub failed_as : Token → Piece
-failed_as (token.Value v) = Short
-failed_as (token.Wrong p) = Wrong p
-failed_as token.Short = Short
+-- what is said of what is found and of the offset after it; the place where a text of size bytes is wrong, or that it is short
+abbrev pub answered : {A B : Type 0} → (A → ℕ → B) → ℕ → Located A → Answer B Refusal
+answered to size (found a next) = Ok (to a next)
+answered to size (wrong_at p) = Err (TextWrong p)
+answered to size short_here = Err (TextShort size)
+
+abbrev pub told_piece : {A : Type 0} → ℕ → Located A → Answer (A × ℕ) Refusal
+told_piece = answered (λ a next. (a, next))
 
 -- a format at an offset, with the numbers that its value says
-abbrev pub told_piece : Located Numbers → Piece
-told_piece (found n next) = Found n next
-told_piece (wrong_at p) = Wrong p
-told_piece short_here = Short
+abbrev pub Piece : Type 0
+Piece = Answer (Numbers × ℕ) Refusal
 
 unfoldable pub piece_at : {A : Type 0} → Format A → (A → Numbers) → List ℕ → ℕ → Piece
-piece_at f numbers s at = told_piece (on_found numbers (locate f s at))
+piece_at f numbers s at = told_piece (length s) (on_found numbers (locate f s at))
 
 -- FSW
 
--- a digit up to top, or u, which is top + 1
-abbrev pub open_number : ℕ → ℕ ⊎ ℕ → ℕ
-open_number top (inl d) = d
-open_number top (inr u) = top + 1
+-- a digit up to top, or u, which leaves it open
+abbrev pub given : ℕ ⊎ ℕ → Optional ℕ
+given v = optionally (open_of v)
 
-abbrev pub given : ℕ → ℕ → Option ℕ
-given top n = choose (eqb n (top + 1)) none (some n)
-
-unfoldable pub open_at : ℕ → List ℕ → ℕ → Token
-open_at top s at = told (on_found (open_number top) (locate (or_any top) s at))
+unfoldable pub open_at : ℕ → List ℕ → ℕ → Answer (Optional ℕ) Refusal
+open_at top s at = told (length s) (on_found given (locate (or_any top) s at))
 
 -- a symbol after its S, and an item, with null among them or without
 abbrev pub symbol : Bool → Format (ℕ ⊎ KeyText)
 symbol true = null_or_key
 symbol false = key_only
-
--- null where it may stand, otherwise wrong at once
-abbrev pub null_at : Bool → List ℕ → ℕ → Token
-null_at true s at = token_at null s at
-null_at false s at = token.Wrong at
 
 abbrev pub symbol_at : Bool → List ℕ → ℕ → Piece
 symbol_at may s at = piece_at (symbol may) (λ v. numbers_of (fsw_meaning (inl v))) s at
@@ -101,20 +87,6 @@ abbrev pub item_of : (s : Spelling) → Bool → Format s.Says
 item_of s true = s.signbox_item
 item_of s false = s.prefix_item
 
--- whether an edition is in SWU, whether null may be sought, and the least code in SWU
-abbrev pub in_swu : Edition → Bool
-in_swu First = false
-in_swu (Second Fsw) = false
-in_swu (Second Swu) = true
-
-abbrev pub has_null : Edition → Bool → Bool
-has_null First boxed = false
-has_null (Second set) boxed = not boxed
-
-abbrev pub least_of : Bool → ℕ
-least_of true = 1
-least_of false = 0
-
 unfoldable pub item_at : Edition → Bool → List ℕ → ℕ → Piece
 item_at e boxed s at = piece_at (item_of (spelling e) boxed) (λ a. numbers_of ((spelling e).means a)) s at
 
@@ -124,37 +96,16 @@ number_size First = 3
 number_size (Second Fsw) = 3
 number_size (Second Swu) = 4
 
-unfoldable pub failed_place : Token → Place
-failed_place (token.Value v) = place.Short
-failed_place (token.Wrong p) = place.Wrong p
-failed_place token.Short = place.Short
+-- a coordinate, or none, and the offset after it
+unfoldable pub coordinate_at : Edition → List ℕ → ℕ → Answer (Optional (ℕ × ℕ) × ℕ) Refusal
+coordinate_at e s at = told_piece (length s) (on_found optionally (locate (optional (coordinate (spelling e))) s at))
 
--- a coordinate, or none with x and y 0
-abbrev pub told_place : Located (Option (ℕ × ℕ)) → Place
-told_place (found p next) = place.Found (x_of p) (y_of p) next
-told_place (wrong_at p) = place.Wrong p
-told_place short_here = place.Short
+-- WHAT IT COMES TO (document 01, "Refusal numbers"): a value and the offset after it, 1 or 2; what is answered comes to what the format does
 
-unfoldable pub coordinate_at : Edition → List ℕ → ℕ → Place
-coordinate_at e s at = told_place (locate (optional (coordinate (spelling e))) s at)
-
--- WHAT IT COMES TO (document 01, "Refusal numbers"), in a text of size bytes: a value and the offset after it, 1 or 2
-
-abbrev pub piece_result : ℕ → Piece → Result (Numbers × ℕ)
-piece_result size (Found n next) = done (n, next)
-piece_result size (Wrong p) = refusal text_wrong p
-piece_result size Short = refusal text_short size
-
-abbrev pub place_result : ℕ → Place → Result ((ℕ × ℕ) × ℕ)
-place_result size (place.Found x y next) = done ((x, y), next)
-place_result size (place.Wrong p) = refusal text_wrong p
-place_result size place.Short = refusal text_short size
-
--- what is answered comes to what the format does
 abbrev pub PieceResult : Type 0
 PieceResult = (e : Edition) (boxed : Bool) (s : List ℕ) (at : ℕ)
-    → piece_result (length s) (item_at e boxed s at) ≡ of_located (length s) (on_found (λ a. numbers_of ((spelling e).means a)) (locate (item_of (spelling e) boxed) s at))
+    → outcome (item_at e boxed s at) ≡ of_located (length s) (on_found (λ a. numbers_of ((spelling e).means a)) (locate (item_of (spelling e) boxed) s at))
 
 abbrev pub PlaceResult : Type 0
 PlaceResult = (e : Edition) (s : List ℕ) (at : ℕ)
-    → place_result (length s) (coordinate_at e s at) ≡ of_located (length s) (on_found (λ p. (x_of p, y_of p)) (locate (optional (coordinate (spelling e))) s at))
+    → outcome (coordinate_at e s at) ≡ of_located (length s) (on_found optionally (locate (optional (coordinate (spelling e))) s at))

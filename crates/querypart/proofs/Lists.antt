@@ -1,5 +1,5 @@
 -- One alternative, further ones and all alternatives of an item: one law for each return.
-use Prim.Native.Nat.{ℕ, ◌+◌, ◌-◌, ◌≤◌}
+use Prim.Native.Nat.{ℕ, ◌+◌, ◌≤◌}
 use mathlib.Core.List.{List, [], ◌∷◌, ◌++◌, map}
 use mathlib.Core.Path.{◌≡◌, refl, sym, ap, ◌∙◌}
 use mathlib.Core.Bool.{Bool, true, false}
@@ -11,7 +11,7 @@ use native.Mathlib.Omega.{arith}
 use borrow.Author.Tests.{leb-true}
 use Rattle.format.specs.Format.{Format, choose, many}
 use Rattle.format.specs.Format.{other as other-one}
-use Rattle.format.specs.Located.{Located, found, wrong_at, short_here, located, locate, and_then, on_found}
+use Rattle.format.specs.Located.{Located, found, wrong_at, short_here, locate, and_then, on_found}
 use Rattle.format.proofs.At.{Got, got, delimited_got, sequence_at_got, Strays, here, later}
 use Rattle.format.proofs.Begun.{sequence_begun}
 use Rattle.format.proofs.Loop.{strays}
@@ -19,40 +19,34 @@ use Rattle.format.proofs.Open.{Open}
 use Rattle.charset.specs.Bytes.{byte, after}
 use Rattle.charset.proofs.FixedByte.{after_at, after_begun}
 use Rattle.charset.proofs.Units.{byte_delimited}
-use Rattle.token.specs.declared.reading.Token.{Token}
-use Rattle.token.specs.declared.reading.Token.TheVariants as token
+use Rattle.std.specs.Prelude.{Result as Answer, Ok, Err, Option as Optional, Some, None}
+use Rattle.std.specs.Option.{option_or}
+use Rattle.token.specs.declared.refusal.Refusal.{Refusal}
 use Rattle.token.specs.Token.{token_at}
-use Rattle.token.specs.Refusal.{text_wrong, text_short}
-use Rattle.token.specs.Result.{done, of_located}
 use Rattle.token.proofs.PaddedLists.{sets_append}
 use Rattle.querygrammar.specs.declared.Edition.{Edition}
 use Rattle.querygrammar.specs.Spelling.{Item, spelling}
 use Rattle.querygrammar.specs.Query.{others, ListText}
 use Rattle.querygrammar.proofs.Lists.{Laws, Unmarked, joined_open, list_laws}
-use Rattle.querygrammar.proofs.Items.{lawful}
 use Rattle.queryitem.specs.declared.reading.Numbers.{Numbers}
-use Rattle.queryitem.specs.declared.reading.Piece.{Piece}
-use Rattle.queryitem.specs.declared.reading.Piece.TheVariants.{Found, Wrong, Short}
-use Rattle.queryitem.specs.Words.{word_count, items_words}
-use Rattle.queryitem.specs.Pieces.{item_at}
+use Rattle.queryitem.specs.Numbers.{optionally}
+use Rattle.queryitem.specs.Words.{items_words}
+use Rattle.queryitem.specs.Pieces.{answered, Piece, item_at}
 use Rattle.queryitem.proofs.Answers.{item_laws, item_located}
-use Rattle.queryitem.proofs.Chains.{byte_there, wrong_token, short_token}
+use Rattle.queryitem.proofs.Chains.{byte_there, FailsAs, token_fails, fails_answered, answered_fails}
 use Rattle.querypart.specs.declared.alternatives.Listed.{Listed}
 use Rattle.querypart.specs.Spots.{reversed, other_spots, list_spots, all_spots}
-use Rattle.querypart.specs.Inner.{or_zero, or_earlier, noted, first_of, Sort, one, means, single, other, alternatives, few, listed_as, OneIn, all_words, all_few, counted_as, AllIn}
+use Rattle.querypart.specs.Inner.{noted, first_of, Sort, one, means, single, other, alternatives, few, listed, OneIn, all_words, all_few, listed_all, AllIn}
 use Rattle.querypart.proofs.Spots.{first_both}
 use Rattle.querypart.proofs.Valid.{item_valid, item_order}
-use Rattle.querypart.proofs.Walks.{Sorted, Failed, wrong_there, short_there, one_found, one_failed, Again, refused_again}
+use Rattle.querypart.proofs.Walks.{one_found, one_failed}
 use Rattle.querypart.proofs.Walks as Walks
 
 -- what was put, by what was located
-wrong_same : {A : Type 0} {i j : ℕ} → ◌≡◌ {A = Located A} (wrong_at i) (wrong_at j) → i ≡ j
-wrong_same e = cc
-
-pub one_in : (k : Sort) (s : List ℕ) (at slot : ℕ) (r : Listed) (o p : List ℕ) (a : k.Says) (next : ℕ) → locate k.format s at ≡ found a next → r ≡ listed_as k at (done (a, next))
+pub one_in : (k : Sort) (s : List ℕ) (at slot : ℕ) (r : Answer Listed Refusal) (o p : List ℕ) (a : k.Says) (next : ℕ) → locate k.format s at ≡ found a next → r ≡ Ok (listed k at a next)
     → length p ≡ length o → (few (k.alternatives a) ≡ true → p ≡ sets o slot (k.words a)) → OneIn k s at slot r o p
 one_in k s at slot r o p a next e q z h = record {
-  is = q ∙ ap (λ l. listed_as k at (of_located (length s) l)) (sym e);
+  is = q ∙ ap (answered (listed k at) (length s)) (sym e);
   size = z;
   still = λ x. absurd (let y = sym e ∙ x in let z : ◌≡◌ {A = ℕ} 0 1 = cc in omega arith);
   holds = λ b j x c. let y : a ≡ b = same (sym e ∙ x) in h (ap (λ a. few (k.alternatives a)) y ∙ c) ∙ ap (λ a. sets o slot (k.words a)) y;
@@ -61,23 +55,31 @@ one_in k s at slot r o p a next e q z h = record {
     same : {A : Type 0} {a b : A} {i j : ℕ} → found a i ≡ found b j → a ≡ b
     same e = cc
 
-pub one_wrong : (k : Sort) (s : List ℕ) (at slot : ℕ) (r : Listed) (o p : List ℕ) (j : ℕ) → locate k.format s at ≡ wrong_at j → r ≡ record { number = text_wrong; place = j; count = 0; reversed = 0 }
-    → length p ≡ length o → (j ≡ at → p ≡ o) → OneIn k s at slot r o p
-one_wrong k s at slot r o p j e q z h = record {
-  is = q ∙ ap (λ l. listed_as k at (of_located (length s) l)) (sym e);
+pub one_fails : (k : Sort) (s : List ℕ) (at slot : ℕ) (e : Refusal) (o p : List ℕ) → FailsAs (length s) (locate k.format s at) e
+    → length p ≡ length o → (locate k.format s at ≡ wrong_at at → p ≡ o) → OneIn k s at slot (Err e) o p
+one_fails k s at slot e o p f z h = record {
+  is = fails_answered (listed k at) (length s) (locate k.format s at) e f;
   size = z;
-  still = λ x. h (wrong_same (sym e ∙ x));
-  holds = λ a next x. absurd (let y = sym e ∙ x in let z : ◌≡◌ {A = ℕ} 0 1 = cc in omega arith);
+  still = h;
+  holds = λ a next x. absurd (rw x at f);
 }
 
-pub one_short : (k : Sort) (s : List ℕ) (at slot : ℕ) (r : Listed) (o p : List ℕ) → locate k.format s at ≡ short_here → r ≡ record { number = text_short; place = length s; count = 0; reversed = 0 }
-    → length p ≡ length o → OneIn k s at slot r o p
-one_short k s at slot r o p e q z = record {
-  is = q ∙ ap (λ l. listed_as k at (of_located (length s) l)) (sym e);
-  size = z;
-  still = λ x. absurd (let y = sym e ∙ x in let z : ◌≡◌ {A = ℕ} 0 1 = cc in omega arith);
-  holds = λ a next x. absurd (let y = sym e ∙ x in let z : ◌≡◌ {A = ℕ} 0 1 = cc in omega arith);
-}
+-- what fails in its first part
+pub fails_on : {A B : Type 0} (size : ℕ) (l : Located A) (k : A → ℕ → Located B) (e : Refusal) → FailsAs size l e → FailsAs size (and_then l k) e
+fails_on size (found a i) k e f = absurd f
+fails_on size (wrong_at p) k e f = f
+fails_on size short_here k e f = f
+
+pub fails_in : {A B : Type 0} (size : ℕ) (l : Located A) (to : A → B) (e : Refusal) → FailsAs size l e → FailsAs size (on_found to l) e
+fails_in size (found a i) to e f = absurd f
+fails_in size (wrong_at p) to e f = f
+fails_in size short_here to e f = f
+
+-- what fails at its first byte in its first part
+pub wrong_first : {A B : Type 0} (at : ℕ) (size : ℕ) (l : Located A) (k : A → ℕ → Located B) (e : Refusal) → FailsAs size l e → and_then l k ≡ wrong_at at → l ≡ wrong_at at
+wrong_first at size (found a i) k e f x = absurd f
+wrong_first at size (wrong_at p) k e f x = let z : p ≡ at = cc in ap wrong_at z
+wrong_first at size short_here k e f x = absurd (cc x)
 
 -- ONE ALTERNATIVE
 
@@ -100,65 +102,60 @@ module _ (e : Edition) (boxed : Bool) where
   laws = item_laws e boxed
 
   -- the first reversed range of one spot
-  one_first : (at : ℕ) (i : Item) → choose (reversed i) at 0 ≡ first_of ((at, i) ∷ [])
+  one_first : (at : ℕ) (i : Item) → choose (reversed i) (Some at) None ≡ first_of ((at, i) ∷ [])
   one_first at i = go (reversed i)
     where
-      go : (t : Bool) → choose t at 0 ≡ or_zero (choose t (some at) none)
+      go : (t : Bool) → choose t (Some at) None ≡ optionally (choose t (some at) none)
       go true = refl
       go false = refl
 
   module _ (s : List ℕ) (at slot : ℕ) (o : List ℕ) (t : Piece) (told : t ≡ item_at e boxed s at) where
-    pub single_found : at ≤ length s → (n : Numbers) (next : ℕ) → t ≡ Found n next → (p : List ℕ) → p ≡ sets o slot (n.lo ∷ n.hi ∷ n.turn ∷ [])
-        → (m : ℕ) → m ≡ noted n at → (r : Listed) → r ≡ record { number = 0; place = next; count = 1; reversed = m } → OneIn (single e boxed) s at slot r o p
-    unfolding noted
-    single_found h n next q p put m w r x =
-        let k = item_located e boxed s at (Found n next) (sym q ∙ told) in
+    pub single_found : at ≤ length s → (n : Numbers) (next : ℕ) → t ≡ Ok (n, next) → (p : List ℕ) → p ≡ sets o slot (n.lo ∷ n.hi ∷ n.turn ∷ [])
+        → (m : Optional ℕ) → m ≡ noted n at → OneIn (single e boxed) s at slot (Ok (record { next = next; count = 1; reversed = m })) o p
+    single_found h n next q p put m w =
+        let k = item_located e boxed s at (Ok (n, next)) (sym q ∙ told) in
         let a = k.says in
         let g = got 1 f laws.opens.lawful s at h a next k.is in
         let c : m ≡ first_of ((at, of a) ∷ []) =
-        w ∙ (λ i. choose (ltb (k.means i).hi (k.means i).lo) at 0) ∙ ap (λ t. choose t at 0) (item_order (of a) (item_valid e boxed a g.valid)) ∙ one_first at (of a) in
-        one_in (single e boxed) s at slot r o p a next k.is (x ∙ (λ i. record { number = 0; place = next; count = 1; reversed = c i })) (ap length put ∙ length-sets o slot (n.lo ∷ n.hi ∷ n.turn ∷ []))
+        w ∙ (λ i. choose (ltb (k.means i).hi (k.means i).lo) (Some at) None) ∙ ap (λ t. choose t (Some at) None) (item_order (of a) (item_valid e boxed a g.valid)) ∙ one_first at (of a) in
+        one_in (single e boxed) s at slot (Ok (record { next = next; count = 1; reversed = m })) o p a next k.is (λ i. Ok (record { next = next; count = 1; reversed = c i }))
+        (ap length put ∙ length-sets o slot (n.lo ∷ n.hi ∷ n.turn ∷ []))
         (λ few. put ∙ ap (λ n. sets o slot (n.lo ∷ n.hi ∷ n.turn ∷ [])) k.means)
 
-    pub single_wrong : (j : ℕ) → t ≡ Wrong j → (r : Listed) → r ≡ record { number = text_wrong; place = j; count = 0; reversed = 0 } → OneIn (single e boxed) s at slot r o o
-    single_wrong j q r x = one_wrong (single e boxed) s at slot r o o j (item_located e boxed s at (Wrong j) (sym q ∙ told)) x refl (λ z. refl)
-
-    pub single_short : t ≡ Short → (r : Listed) → r ≡ record { number = text_short; place = length s; count = 0; reversed = 0 } → OneIn (single e boxed) s at slot r o o
-    single_short q r x = one_short (single e boxed) s at slot r o o (item_located e boxed s at Short (sym q ∙ told)) x refl
+    pub single_fails : (r : Refusal) → t ≡ Err r → OneIn (single e boxed) s at slot (Err r) o o
+    single_fails r q = one_fails (single e boxed) s at slot r o o (item_located e boxed s at (Err r) (sym q ∙ told)) refl (λ z. refl)
 
   -- A FURTHER ONE
 
-  pub other_sorted : Sorted (other e boxed)
-  other_sorted = record { opens = joined_open f laws; inside = λ at a h. (omega arith, tt) }
+  pub other_open : Open 1 (other e boxed).format
+  other_open = joined_open f laws
 
-  module _ (s : List ℕ) (at slot : ℕ) (o : List ℕ) (t : Token) (told : t ≡ token_at (byte 111) s at) where
+  module _ (s : List ℕ) (at slot : ℕ) (o : List ℕ) (t : Answer ℕ Refusal) (told : t ≡ token_at (byte 111) s at) where
     after-it : locate (after 111 f) s at ≡ and_then (locate (byte 111) s at) λ b i. locate f s i
     after-it = after_at 111 f s at
 
-    pub other_found : (b : ℕ) → t ≡ token.Value b → (p : List ℕ) (r : Listed) → OneIn (single e boxed) s (at + 1) slot r o p → OneIn (other e boxed) s at slot r o p
+    pub other_found : (b : ℕ) → t ≡ Ok b → (p : List ℕ) (r : Answer Listed Refusal) → OneIn (single e boxed) s (at + 1) slot r o p → OneIn (other e boxed) s at slot r o p
     other_found b q p r v =
         let l : locate (after 111 f) s at ≡ locate f s (at + 1) = after-it ∙ ap (λ l. and_then l λ b i. locate f s i) (byte_there 111 s at b t told q) in
         let g = delimited_got 1 (byte 111) (byte_delimited 111) s at b (at + 1) (byte_there 111 s at b t told q) in
         record {
-          is = v.is ∙ same (locate f s (at + 1)) ∙ ap (λ l. listed_as (other e boxed) at (of_located (length s) l)) (sym l);
+          is = v.is ∙ same (locate f s (at + 1)) ∙ ap (answered (listed (other e boxed) at) (length s)) (sym l);
           size = v.size;
           still = λ x. absurd (after_begun 111 f (drop at s) b (drop (at + 1) s) g.reads (strays_here 1 (after 111 f) (joined_open f laws) s at x));
           holds = λ a next x. v.holds a next (sym l ∙ x);
         }
       where
-        same : (l : Located (spelling e).Says) → listed_as (single e boxed) (at + 1) (of_located (length s) l) ≡ listed_as (other e boxed) at (of_located (length s) l)
+        same : (l : Located (spelling e).Says) → answered (listed (single e boxed) (at + 1)) (length s) l ≡ answered (listed (other e boxed) at) (length s) l
         same (found a next) = refl
         same (wrong_at j) = refl
         same short_here = refl
 
-    pub other_room : (b : ℕ) → t ≡ token.Value b → at + 1 ≤ length s
+    pub other_room : (b : ℕ) → t ≡ Ok b → at + 1 ≤ length s
     other_room b q = (delimited_got 1 (byte 111) (byte_delimited 111) s at b (at + 1) (byte_there 111 s at b t told q)).room
 
-    pub other_wrong : (j : ℕ) → t ≡ token.Wrong j → (r : Listed) → r ≡ record { number = text_wrong; place = j; count = 0; reversed = 0 } → OneIn (other e boxed) s at slot r o o
-    other_wrong j q r x = one_wrong (other e boxed) s at slot r o o j (after-it ∙ ap (λ l. and_then l λ b i. locate f s i) (wrong_token (byte 111) s at j t told q)) x refl (λ z. refl)
-
-    pub other_short : t ≡ token.Short → (r : Listed) → r ≡ record { number = text_short; place = length s; count = 0; reversed = 0 } → OneIn (other e boxed) s at slot r o o
-    other_short q r x = one_short (other e boxed) s at slot r o o (after-it ∙ ap (λ l. and_then l λ b i. locate f s i) (short_token (byte 111) s at t told q)) x refl
+    pub other_fails : (r : Refusal) → t ≡ Err r → OneIn (other e boxed) s at slot (Err r) o o
+    other_fails r q =
+        one_fails (other e boxed) s at slot r o o (rw after-it (fails_on (length s) (locate (byte 111) s at) (λ b i. locate f s i) r (token_fails (byte 111) s at t r told q))) refl (λ z. refl)
 
   -- ALL OF THEM
 
@@ -170,7 +167,7 @@ module _ (e : Edition) (boxed : Bool) where
   others_few [] = refl
   others_few (a ∷ l) = others_few l
 
-  module _ (s : List ℕ) (at from : ℕ) (o p : List ℕ) (r : Listed) (inside : at ≤ length s) (v : OneIn (single e boxed) s at from r o p) where
+  module _ (s : List ℕ) (at from : ℕ) (o p : List ℕ) (r : Answer Listed Refusal) (inside : at ≤ length s) (v : OneIn (single e boxed) s at from r o p) where
     abbrev rest : Format (List (spelling e).Says)
     rest = others (spelling e).joins f
 
@@ -180,95 +177,89 @@ module _ (e : Edition) (boxed : Bool) where
     list_at : locate (alternatives e boxed).format s at ≡ and_then (locate f s at) goes
     list_at = sequence_at_got f (λ a. rest) s at (got 1 f laws.opens.lawful s at inside)
 
-    pub list_failed : (r.number ≡ 0 → ⊥) → (c : Listed) → Again r c → OneIn (alternatives e boxed) s at from c o p
-    list_failed z c u = go (one_failed (single e boxed) s at from r o p v z)
-      where
-        go : Failed (single e boxed) s at from r o p v → OneIn (alternatives e boxed) s at from c o p
-        go (wrong_there x y) =
-            one_wrong (alternatives e boxed) s at from c o p r.place (list_at ∙ ap (λ l. and_then l goes) x)
-            (refused_again r c text_wrong r.place (v.is ∙ ap (λ l. listed_as (single e boxed) at (of_located (length s) l)) x) u) v.size
-            (λ z. v.still (x ∙ ap wrong_at z))
-        go (short_there x y l) =
-            one_short (alternatives e boxed) s at from c o p (list_at ∙ ap (λ l. and_then l goes) x)
-            (refused_again r c text_short (length s) (v.is ∙ ap (λ l. listed_as (single e boxed) at (of_located (length s) l)) x) u) v.size
+    pub list_fails : (d : Refusal) → r ≡ Err d → OneIn (alternatives e boxed) s at from (Err d) o p
+    list_fails d z =
+        let k = one_failed (single e boxed) s at from r o p v d z in
+        one_fails (alternatives e boxed) s at from d o p (rw list_at (fails_on (length s) (locate f s at) goes d k)) v.size
+        (λ x. v.still (wrong_first at (length s) (locate f s at) goes d k (sym list_at ∙ x)))
 
-    module _ (z : r.number ≡ 0) where
-      abbrev y : Walks.Found (single e boxed) s at from r o p v
-      y = one_found (single e boxed) s at from r o p v z
+    module _ (m : Listed) (z : r ≡ Ok m) where
+      abbrev y : Walks.Found (single e boxed) s at from r o p v m
+      y = one_found (single e boxed) s at from r o p v m z
 
-      there : Got f s at y.says r.place
-      there = got 1 f laws.opens.lawful s at inside y.says r.place y.is
+      there : Got f s at y.says m.next
+      there = got 1 f laws.opens.lawful s at inside y.says m.next y.is
 
-      pub list-room : 1 ≤ at → (1 ≤ r.place) × (r.place ≤ length s)
-      list-room h = let g = there in (omega (arith, g.size), g.room)
+      pub list-room : m.next ≤ length s
+      list-room = there.room
 
       -- the first is there
       begun : locate (alternatives e boxed).format s at ≡ wrong_at at → ⊥
       begun x =
-          sequence_begun f (λ a. rest) (drop at s) y.says (drop r.place s) there.reads
+          sequence_begun f (λ a. rest) (drop at s) y.says (drop m.next s) there.reads
           (strays_here 1 (alternatives e boxed).format (list_laws f laws (spelling e).joins).opens s at x)
 
-      list_on : (l : Located (List (spelling e).Says)) → locate rest s r.place ≡ l → locate (alternatives e boxed).format s at ≡ on_found (λ l. (y.says, l)) l
+      list_on : (l : Located (List (spelling e).Says)) → locate rest s m.next ≡ l → locate (alternatives e boxed).format s at ≡ on_found (λ l. (y.says, l)) l
       list_on l x = list_at ∙ ap (λ l. and_then l goes) y.is ∙ ap (on_found (λ l. (y.says, l))) x
 
       -- the edition does not join
-      no-others : (joins : Bool) → joins ≡ false → locate (others joins f) s r.place ≡ found [] r.place
+      no-others : (joins : Bool) → joins ≡ false → locate (others joins f) s m.next ≡ found [] m.next
       unfolding locate
       no-others true x = absurd (let z : ◌≡◌ {A = ℕ} 0 1 = ap (λ t. choose t 0 1) x in omega arith)
-      no-others false x = ap (found []) (let g = there.room in omega (arith, length-drop r.place s))
+      no-others false x = ap (found []) (let g = there.room in omega (arith, length-drop m.next s))
 
-      pub list-alone : (spelling e).joins ≡ false → (c : Listed) → c ≡ record { number = 0; place = r.place; count = 1; reversed = r.reversed } → OneIn (alternatives e boxed) s at from c o p
-      list-alone x c u =
-          one_in (alternatives e boxed) s at from c o p (y.says, []) r.place (list_on (found [] r.place) (no-others (spelling e).joins x))
-          (u ∙ (λ i. record { number = 0; place = r.place; count = 1; reversed = y.first i })) v.size (λ few. v.holds y.says r.place y.is refl)
+      pub list-alone : (spelling e).joins ≡ false → OneIn (alternatives e boxed) s at from (Ok m) o p
+      list-alone x =
+          one_in (alternatives e boxed) s at from (Ok m) o p (y.says, []) m.next (list_on (found [] m.next) (no-others (spelling e).joins x))
+          (λ i. Ok (record { next = m.next; count = y.count i; reversed = y.first i })) v.size (λ few. v.holds y.says m.next y.is refl)
 
       -- it does
-      module _ (x : (spelling e).joins ≡ true) (b : List ℕ) (t : Listed) (w : AllIn (other e boxed) 7 s r.place (from + 3) t p b) where
-        joined-rest : locate rest s r.place ≡ locate (many (after 111 f)) s r.place
-        joined-rest = ap (λ j. locate (others j f) s r.place) x
-
+      module _ (x : (spelling e).joins ≡ true) (b : List ℕ) (t : Answer Listed Refusal) (w : AllIn (other e boxed) 7 s m.next (from + 3) t p b) where
         abbrev more : Located (List (spelling e).Says)
-        more = locate (many (after 111 f)) s r.place
+        more = locate (many (after 111 f)) s m.next
 
-        pub list-failed-later : (t.number ≡ 0 → ⊥) → (c : Listed) → Again t c → OneIn (alternatives e boxed) s at from c o b
-        list-failed-later n c u = go more refl
-          where
-            go : (l : Located (List (spelling e).Says)) → more ≡ l → OneIn (alternatives e boxed) s at from c o b
-            go (found l next) q = absurd (n (ap (λ t. t.number) (w.is ∙ ap (λ l. counted_as (other e boxed) r.place (of_located (length s) l)) q)))
-            go (wrong_at j) q =
-                one_wrong (alternatives e boxed) s at from c o b j (list_on (wrong_at j) (joined-rest ∙ q))
-                (refused_again t c text_wrong j (w.is ∙ ap (λ l. counted_as (other e boxed) r.place (of_located (length s) l)) q) u) (w.size ∙ v.size)
-                (λ z. absurd (begun (list_on (wrong_at j) (joined-rest ∙ q) ∙ ap wrong_at z)))
-            go short_here q =
-                one_short (alternatives e boxed) s at from c o b (list_on short_here (joined-rest ∙ q))
-                (refused_again t c text_short (length s) (w.is ∙ ap (λ l. counted_as (other e boxed) r.place (of_located (length s) l)) q) u) (w.size ∙ v.size)
+        list_more : locate (alternatives e boxed).format s at ≡ on_found (λ l. (y.says, l)) more
+        list_more = list_on more (ap (λ j. locate (others j f) s m.next) x)
 
-        module _ (n : t.number ≡ 0) (first : ℕ) (m : first ≡ or_earlier r.reversed t.reversed) (c : Listed)
-            (q : c ≡ record { number = 0; place = t.place; count = t.count + 1; reversed = first }) where
-          spots-at : (l : List (spelling e).Says) → 1 ≤ at → or_earlier (first_of ((at, of y.says) ∷ [])) (first_of (all_spots (after 111 f) (other_spots of) r.place l))
+        pub list-fails-later : (d : Refusal) → t ≡ Err d → OneIn (alternatives e boxed) s at from (Err d) o b
+        list-fails-later d n =
+            one_fails (alternatives e boxed) s at from d o b
+            (rw list_more (fails_in (length s) more (λ l. (y.says, l)) d (answered_fails (listed_all (other e boxed) m.next) (length s) more d (sym w.is ∙ n))))
+            (w.size ∙ v.size) (λ z. absurd (begun z))
+
+        module _ (n : Listed) (q : t ≡ Ok n) where
+          spots-at : (l : List (spelling e).Says) → option_or (first_of ((at, of y.says) ∷ [])) (first_of (all_spots (after 111 f) (other_spots of) m.next l))
               ≡ first_of (list_spots f of at (y.says, l))
-          spots-at l h =
-              ap (λ i. or_earlier (first_of ((at, of y.says) ∷ [])) (first_of (all_spots (after 111 f) (other_spots of) i l))) there.size
-              ∙ sym (first_both ((at, of y.says) ∷ []) (all_spots (after 111 f) (other_spots of) (at + length (f.write y.says)) l) (h, tt))
+          spots-at l =
+              ap (λ i. option_or (first_of ((at, of y.says) ∷ [])) (first_of (all_spots (after 111 f) (other_spots of) i l))) there.size
+              ∙ sym (first_both ((at, of y.says) ∷ []) (all_spots (after 111 f) (other_spots of) (at + length (f.write y.says)) l))
 
-          held : (l : List (spelling e).Says) → more ≡ found l t.place → few (of y.says ∷ map of l) ≡ true → b ≡ sets o from (items_words (of y.says ∷ map of l))
-          held l z k =
+          held : (l : List (spelling e).Says) (next : ℕ) → more ≡ found l next → few (of y.says ∷ map of l) ≡ true → b ≡ sets o from (items_words (of y.says ∷ map of l))
+          held l next z k =
               let h : length l ≤ 7 = let j = leb-true (length (of y.says ∷ map of l)) 8 k in omega (arith, length-map l of) in
-              w.holds l t.place z h (others_few l)
-              ∙ (λ i. sets (v.holds y.says r.place y.is refl i) (from + 3) (others_words l i))
+              w.holds l next z h (others_few l)
+              ∙ (λ i. sets (v.holds y.says m.next y.is refl i) (from + 3) (others_words l i))
               ∙ sets_append ((single e boxed).words y.says) (items_words (map of l)) o from
 
-          pub list_done : 1 ≤ at → OneIn (alternatives e boxed) s at from c o b
-          list_done h = go more refl
+          -- how many there are is no more than the bytes
+          pub list-count : n.count ≤ length s
+          list-count = go more refl (sym w.is ∙ q)
             where
-              go : (l : Located (List (spelling e).Says)) → more ≡ l → OneIn (alternatives e boxed) s at from c o b
-              go (found l next) z =
-                  let k : t ≡ record { number = 0; place = next; count = length l; reversed = first_of (all_spots (after 111 f) (other_spots of) r.place l) } =
-                  w.is ∙ ap (λ l. counted_as (other e boxed) r.place (of_located (length s) l)) z in
-                  let place : t.place ≡ next = ap (λ t. t.place) k in
-                  let count : t.count + 1 ≡ length (of y.says ∷ map of l) = omega (arith, ap (λ t. t.count) k, length-map l of) in
-                  let reversed : first ≡ first_of (list_spots f of at (y.says, l)) = m ∙ (λ i. or_earlier (y.first i) (k i).reversed) ∙ spots-at l h in
-                  one_in (alternatives e boxed) s at from c o b (y.says, l) next (list_on (found l next) (joined-rest ∙ z))
-                  (q ∙ (λ i. record { number = 0; place = place i; count = count i; reversed = reversed i })) (w.size ∙ v.size) (held l (z ∙ ap (found l) (sym place)))
-              go (wrong_at j) z = absurd (let k : t.number ≡ text_wrong = ap (λ t. t.number) (w.is ∙ ap (λ l. counted_as (other e boxed) r.place (of_located (length s) l)) z) in omega arith)
-              go short_here z = absurd (let k : t.number ≡ text_short = ap (λ t. t.number) (w.is ∙ ap (λ l. counted_as (other e boxed) r.place (of_located (length s) l)) z) in omega arith)
+              go : (l : Located (List (spelling e).Says)) → more ≡ l → answered (listed_all (other e boxed) m.next) (length s) l ≡ Ok n → n.count ≤ length s
+              go (found l next) z u = let h : length l ≡ n.count = cc in omega (arith, w.below l next z)
+              go (wrong_at j) z u = absurd (cc u)
+              go short_here z u = absurd (cc u)
+
+          pub list_done : (first : Optional ℕ) → first ≡ option_or m.reversed n.reversed → OneIn (alternatives e boxed) s at from (Ok (record { next = n.next; count = n.count + 1; reversed = first })) o b
+          list_done first c = go more refl (sym w.is ∙ q)
+            where
+              go : (l : Located (List (spelling e).Says)) → more ≡ l → answered (listed_all (other e boxed) m.next) (length s) l ≡ Ok n
+                  → OneIn (alternatives e boxed) s at from (Ok (record { next = n.next; count = n.count + 1; reversed = first })) o b
+              go (found l next) z u =
+                  let k : n ≡ listed_all (other e boxed) m.next l next = cc in
+                  let count : n.count + 1 ≡ length (of y.says ∷ map of l) = omega (arith, ap (λ n. n.count) k, length-map l of) in
+                  let reversed : first ≡ first_of (list_spots f of at (y.says, l)) = c ∙ (λ i. option_or (y.first i) (k i).reversed) ∙ spots-at l in
+                  one_in (alternatives e boxed) s at from (Ok (record { next = n.next; count = n.count + 1; reversed = first })) o b (y.says, l) next (list_more ∙ ap (on_found (λ l. (y.says, l))) z)
+                  (λ i. Ok (record { next = (k i).next; count = count i; reversed = reversed i })) (w.size ∙ v.size) (held l next z)
+              go (wrong_at j) z u = absurd (cc u)
+              go short_here z u = absurd (cc u)

@@ -1,21 +1,21 @@
 -- What the inner functions that read the parts of a query promise: what they answer, and what they put into the words.
-use Rattle.std.specs.Prelude.{ℕ, ◌+◌, ◌≤◌, ◌≡◌, List, [], ◌∷◌, ◌++◌, Bool, true, false, not, eqb, leb, ltb, length}
+use Rattle.std.specs.Prelude.{Result as Answer, Ok, Err, Option as Optional, Some, None, ℕ, ◌+◌, ◌≤◌, ◌≡◌, List, [], ◌∷◌, ◌++◌, Bool, true, false, not, leb, ltb, length}
 use Prim.Native.Char.{code}
-use Rattle.std.proofs.Math.Option.{Option, none, some}
+use Rattle.std.proofs.Math.Option.{some}
 use Rattle.std.proofs.lemmas.List.Edits.{sets}
 use Rattle.format.specs.Format.{Format, choose, many, every}
 use Rattle.format.specs.Places.{Outcome, fine, refused, ends_short}
 use Rattle.format.specs.Located.{found, wrong_at, locate, ended}
 use Rattle.charset.specs.Bytes.{after}
-use Rattle.token.specs.declared.reading.Token.{Token}
-use Rattle.token.specs.declared.reading.Token.TheVariants.{Value, Wrong, Short}
-use Rattle.token.specs.Result.{Result, refusal, done, of_located}
+use Rattle.token.specs.declared.refusal.Refusal.{Refusal}
+use Rattle.token.specs.declared.refusal.Refusal.TheVariants.{TextWrong, TextShort}
 use Rattle.querygrammar.specs.declared.Edition.{Edition}
 use Rattle.querygrammar.specs.Spelling.{Item, spelling}
 use Rattle.querygrammar.specs.Query.{list, ListText, SoughtText, prefix_list, signbox_list, alternatives_of, sought_of, figures, variance, variance_of}
 use Rattle.queryitem.specs.declared.reading.Numbers.{Numbers}
 use Rattle.queryitem.specs.Words.{spare, item_words, items_words, row_words, bare}
-use Rattle.queryitem.specs.Pieces.{item_of}
+use Rattle.queryitem.specs.Numbers.{optionally}
+use Rattle.queryitem.specs.Pieces.{answered, item_of}
 use Rattle.querypart.specs.declared.alternatives.Listed.{Listed}
 use Rattle.querypart.specs.declared.items.Count.{Count}
 use Rattle.querypart.specs.Spots.{Spot, all_spots, other_spots, list_spots, first_reversed}
@@ -23,31 +23,24 @@ use Rattle.querypart.specs.Spots.{Spot, all_spots, other_spots, list_spots, firs
 -- THE VARIANCE
 
 -- what stands at the end of a text, as a number
-abbrev pub told_end : {A : Type 0} → (A → ℕ) → Outcome A → Token
-told_end to (fine a) = Value (to a)
-told_end to (refused p) = Wrong p
-told_end to ends_short = Short
+abbrev pub told_end : {A : Type 0} → (A → ℕ) → ℕ → Outcome A → Answer ℕ Refusal
+told_end to size (fine a) = Ok (to a)
+told_end to size (refused p) = Err (TextWrong p)
+told_end to size ends_short = Err (TextShort size)
 
-unfoldable pub figures_end : List ℕ → ℕ → Token
-figures_end s at = told_end (λ f. variance_of (some f)) (ended 1 (length s) (locate figures s at))
+unfoldable pub figures_end : List ℕ → ℕ → Answer ℕ Refusal
+figures_end s at = told_end (λ f. variance_of (some f)) (length s) (ended 1 (length s) (locate figures s at))
 
-unfoldable pub variance_end : List ℕ → ℕ → Token
-variance_end s at = told_end variance_of (ended 1 (length s) (locate variance s at))
+unfoldable pub variance_end : List ℕ → ℕ → Answer ℕ Refusal
+variance_end s at = told_end variance_of (length s) (ended 1 (length s) (locate variance s at))
 
--- OFFSETS OF WHICH 0 IS NONE
+-- OFFSETS OF REVERSED RANGES
 
-abbrev pub or_zero : Option ℕ → ℕ
-or_zero none = 0
-or_zero (some at) = at
+abbrev pub noted : Numbers → ℕ → Optional ℕ
+noted n at = choose (ltb n.hi n.lo) (Some at) None
 
-unfoldable pub or_earlier : ℕ → ℕ → ℕ
-or_earlier earlier later = choose (eqb earlier 0) later earlier
-
-unfoldable pub noted : Numbers → ℕ → ℕ
-noted n at = choose (ltb n.hi n.lo) at 0
-
-abbrev pub first_of : List Spot → ℕ
-first_of spots = or_zero (first_reversed spots)
+abbrev pub first_of : List Spot → Optional ℕ
+first_of spots = optionally (first_reversed spots)
 
 -- WHAT IS READ INTO THE WORDS
 
@@ -118,13 +111,12 @@ few l = leb (length l) 8
 
 -- ONE OF A SORT: the offset after it, how many alternatives it has and the first that is reversed, or the refusal
 
-abbrev pub listed_as : (k : Sort) → ℕ → Result (k.Says × ℕ) → Listed
-listed_as k at (refusal number place) = record { number = number; place = place; count = 0; reversed = 0 }
-listed_as k at (done p) = record { number = 0; place = p.1; count = length (k.alternatives p.0); reversed = first_of (k.spots at p.0) }
+abbrev pub listed : (k : Sort) → ℕ → k.Says → ℕ → Listed
+listed k at a next = record { next = next; count = length (k.alternatives a); reversed = first_of (k.spots at a) }
 
 -- The words o became p: if it has no more than eight alternatives, its words were put from an offset on; if none is there, nothing was.
-pub record OneIn (k : Sort) (s : List ℕ) (at slot : ℕ) (r : Listed) (o p : List ℕ) : Type 0 where
-  pub is : r ≡ listed_as k at (of_located (length s) (locate k.format s at))
+pub record OneIn (k : Sort) (s : List ℕ) (at slot : ℕ) (r : Answer Listed Refusal) (o p : List ℕ) : Type 0 where
+  pub is : r ≡ answered (listed k at) (length s) (locate k.format s at)
   pub size : length p ≡ length o
   pub still : locate k.format s at ≡ wrong_at at → p ≡ o
   pub holds : (a : k.Says) (next : ℕ) → locate k.format s at ≡ found a next → few (k.alternatives a) ≡ true → p ≡ sets o slot (k.words a)
@@ -138,40 +130,38 @@ all_words k (a ∷ l) = k.words a ++ all_words k l
 abbrev pub all_few : (k : Sort) → List k.Says → Bool
 all_few k l = every (λ a. few (k.alternatives a)) l
 
-abbrev pub counted_as : (k : Sort) → ℕ → Result (List k.Says × ℕ) → Listed
-counted_as k at (refusal number place) = record { number = number; place = place; count = 0; reversed = 0 }
-counted_as k at (done p) = record { number = 0; place = p.1; count = length p.0; reversed = first_of (all_spots k.format k.spots at p.0) }
+abbrev pub listed_all : (k : Sort) → ℕ → List k.Says → ℕ → Listed
+listed_all k at l next = record { next = next; count = length l; reversed = first_of (all_spots k.format k.spots at l) }
 
 -- where the next is put
-unfoldable pub slot_of : ℕ → ℕ → ℕ → ℕ → ℕ
+abbrev pub slot_of : ℕ → ℕ → ℕ → ℕ → ℕ
 slot_of n most row from = choose (ltb n most) row from
 
-unfoldable pub row_slot : ℕ → ℕ → ℕ
+abbrev pub row_slot : ℕ → ℕ → ℕ
 row_slot row room = choose (leb (row + 27) room) row 4
 
-pub record AllIn (k : Sort) (most : ℕ) (s : List ℕ) (at from : ℕ) (r : Listed) (o p : List ℕ) : Type 0 where
-  pub is : r ≡ counted_as k at (of_located (length s) (locate (many k.format) s at))
+pub record AllIn (k : Sort) (most : ℕ) (s : List ℕ) (at from : ℕ) (r : Answer Listed Refusal) (o p : List ℕ) : Type 0 where
+  pub is : r ≡ answered (listed_all k at) (length s) (locate (many k.format) s at)
   pub size : length p ≡ length o
-  pub below : r.count ≤ length s
+  pub below : (l : List k.Says) (next : ℕ) → locate (many k.format) s at ≡ found l next → length l ≤ length s
   pub holds : (l : List k.Says) (next : ℕ) → locate (many k.format) s at ≡ found l next → length l ≤ most → all_few k l ≡ true
       → p ≡ sets o from (all_words k l)
 
 -- ITEMS OF THE SIGNBOX OR OF THE PREFIX: as above, with whether one has more than eight alternatives, and the offset after the rows
 
-abbrev pub count_of : (k : Sort) → ℕ → ℕ → Result (List k.Says × ℕ) → Count
-count_of k row at (refusal number place) = record { number = number; place = place; count = 0; reversed = 0; crowded = false; row = row }
-count_of k row at (done p) = record {
-  number = 0;
-  place = p.1;
-  count = length p.0;
-  reversed = first_of (all_spots k.format k.spots at p.0);
-  crowded = not (all_few k p.0);
+abbrev pub counted : (k : Sort) → ℕ → ℕ → List k.Says → ℕ → Count
+counted k row at l next = record {
+  next = next;
+  count = length l;
+  reversed = first_of (all_spots k.format k.spots at l);
+  crowded = not (all_few k l);
   row = row;
 }
 
-pub record ItemsIn (e : Edition) (boxed : Bool) (s : List ℕ) (at from : ℕ) (r : Count) (o p : List ℕ) : Type 0 where
-  pub is : r ≡ count_of (item e boxed) r.row at (of_located (length s) (locate (many (item e boxed).format) s at))
+pub record ItemsIn (e : Edition) (boxed : Bool) (s : List ℕ) (at from : ℕ) (r : Answer Count Refusal) (o p : List ℕ) : Type 0 where
+  pub row : ℕ
+  pub is : r ≡ answered (counted (item e boxed) row at) (length s) (locate (many (item e boxed).format) s at)
   pub size : length p ≡ length o
-  pub room : r.row ≤ length o
+  pub room : row ≤ length o
   pub holds : (l : List (item e boxed).Says) (next : ℕ) → locate (many (item e boxed).format) s at ≡ found l next → from + length (all_words (item e boxed) l) + spare ≤ length o → all_few (item e boxed) l ≡ true
-      → (p ≡ sets o from (all_words (item e boxed) l)) × (r.row ≡ from + length (all_words (item e boxed) l))
+      → (p ≡ sets o from (all_words (item e boxed) l)) × (row ≡ from + length (all_words (item e boxed) l))

@@ -1,25 +1,34 @@
--- What a count says of what was read.
+-- What a function's answer says of what was read.
 use Prim.Native.Nat.{ℕ}
 use mathlib.Core.List.{List}
-use mathlib.Core.Path.{◌≡◌, refl, sym, ap}
+use mathlib.Core.Path.{◌≡◌, sym, ap, ◌∙◌}
 use lib.ListN.{length}
-use native.Mathlib.Omega.{arith}
-use Rattle.token.specs.Result.{Result, refusal, done}
-use Rattle.token.proofs.Checks.{Counted}
+use Rattle.std.specs.Prelude.{Result as Answer, Ok, Err}
+use Rattle.token.specs.declared.refusal.Refusal.{Refusal}
+use Rattle.token.specs.Refusal.{number_of, place_of}
+use Rattle.token.specs.Result.{Result, refusal, done, outcome, on_done}
+use Rattle.token.proofs.Checks.{on_done_done}
+use Rattle.token.proofs.Results.{on_done_refusal}
 use Rattle.reader.specs.declared.arrays.Count.{Count}
 use Rattle.reader.specs.Inner.{count_of}
 
 -- refused
-pub was_refused : {A : Type 0} (x : Result (List A × ℕ)) (r : Count) → r ≡ count_of x → (r.number ≡ 0 → ⊥) → x ≡ refusal r.number r.place
-was_refused (refusal n p) r c z = λ i. refusal (sym (ap (λ k. k.number) c) i) (sym (ap (λ k. k.place) c) i)
-was_refused (done p) r c z = absurd (z (ap (λ k. k.number) c))
+pub was_refused : {A B : Type 0} (to : A → B) (x : Result A) (r : Answer B Refusal) (e : Refusal) → outcome r ≡ on_done to x → r ≡ Err e
+    → x ≡ refusal (number_of e) (place_of e)
+was_refused to x r e is was = on_done_refusal to x _ _ (sym is ∙ ap outcome was)
 
--- read up to the place
-pub record Read {A : Type 0} (x : Result (List A × ℕ)) (r : Count) : Type 0 where
+-- done
+pub was_done : {A B : Type 0} (to : A → B) (x : Result A) (r : Answer B Refusal) (b : B) → outcome r ≡ on_done to x → r ≡ Ok b
+    → (a : A) × ((x ≡ done a) × (to a ≡ b))
+was_done to x r b is was = on_done_done to x (sym is ∙ ap outcome was)
+
+-- read up to an offset
+pub record Read {A : Type 0} (x : Result (List A × ℕ)) (c : Count) : Type 0 where
   pub symbols : List A
-  pub is : x ≡ done (symbols, r.place)
-  pub count : r.count ≡ length symbols
+  pub is : x ≡ done (symbols, c.end)
+  pub count : c.count ≡ length symbols
 
-pub was_read : {A : Type 0} (x : Result (List A × ℕ)) (r : Count) → Counted x → r ≡ count_of x → r.number ≡ 0 → Read x r
-was_read (refusal n p) r k c z = absurd (let a : r.number ≡ n = ap (λ k. k.number) c in omega (arith, k n p refl))
-was_read (done p) r k c z = record { symbols = p.0; is = λ i. done (p.0, sym (ap (λ k. k.place) c) i); count = ap (λ k. k.count) c }
+pub was_read : {A : Type 0} (x : Result (List A × ℕ)) (r : Answer Count Refusal) (c : Count) → outcome r ≡ on_done count_of x → r ≡ Ok c → Read x c
+was_read x r c is was =
+    let d = was_done count_of x r c is was in
+    record { symbols = d.0.0; is = d.1.0 ∙ (λ i. done (d.0.0, (d.1.1 i).end)); count = sym (ap (λ k. k.count) d.1.1) }

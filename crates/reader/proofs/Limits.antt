@@ -9,41 +9,57 @@ use lib.Dec.{leb, lit<}
 use lib.ListN.{length}
 use native.Mathlib.Omega.{arith}
 use borrow.Author.Tests.{leb-true, leb-false, le-leb, lt-leb, lt-ltb, le-ltb}
-use Rattle.format.specs.Places.{Outcome, fine, refused, ends_short}
+use Rattle.format.specs.Places.{fine}
 use Rattle.charset.specs.declared.Charset.{Charset}
 use Rattle.grammar.specs.Sign.{Meaning, read_sign}
 use Rattle.token.specs.Refusal.{prefix_long, signbox_long}
 use Rattle.token.specs.Result.{Result, refusal, done, and_then, check, of_outcome}
-use Rattle.token.proofs.Checks.{check_done, and_then_done, Counted, done_counted, check_counted, and_then_counted, outcome_counted}
+use Rattle.token.proofs.Checks.{refusal_done, check_done, and_then_done, Counted, done_counted, check_counted, and_then_counted, outcome_counted}
 use Rattle.token.proofs.Exactly.{Never, done_never, check_never, check_passed, check_stopped}
-use Rattle.token.proofs.Results.{outcome_done, same_done}
-use Rattle.reader.specs.declared.arrays.Head.{Head}
-use Rattle.token.specs.Padded.{padded}
+use Rattle.token.proofs.Results.{on_done_refusal, outcome_done, same_done}
+use Rattle.std.specs.Prelude.{Result as Answer, Ok, Err}
+use Rattle.token.specs.declared.refusal.Refusal.{Refusal}
+use Rattle.token.specs.Refusal.{number_of, place_of}
+use Rattle.token.specs.Result.{outcome, on_done}
+use Rattle.grammar.specs.declared.Head.{Head}
+use Rattle.grammar.specs.declared.Symbols.{Symbols}
 use Rattle.reader.specs.Signs.{within_limits, sign_of}
-use Rattle.reader.specs.Inner.{head_of, HoldsSymbols, ReadAs, whole, TextInto, ReadInto, limited}
+use Rattle.reader.specs.Inner.{head_of, symbols_of, HoldsSign, TextInto, ReadInto, limited}
+use Rattle.reader.proofs.Counts.{was_refused, was_done}
 
 -- the limits, of a sign that was read
-limits_go : (m : Meaning) (array codes xs ys : List ℕ) → (array ≡ padded 32 m.prefix) × HoldsSymbols m.symbols codes xs ys → (p q : Bool)
-    → leb (length m.prefix) 32 ≡ p → leb (length m.symbols) 64 ≡ q
-    → ReadAs (whole (check p prefix_long 0 (check q signbox_long 0 (done m)))) (limited (head_of m (length m.prefix) 0)) array codes xs ys
+limits_go : (m : Meaning) (p q : Bool) → leb (length m.prefix) 32 ≡ p → leb (length m.symbols) 64 ≡ q
+    → outcome (limited (head_of m)) ≡ on_done head_of (check p prefix_long 0 (check q signbox_long 0 (done m)))
 unfolding limited
-limits_go m array codes xs ys a false q x y = rw (lt-ltb 32 (length m.prefix) (leb-false (length m.prefix) 32 x))
-limits_go m array codes xs ys a true false x y =
-    rw (le-ltb 32 (length m.prefix) (leb-true (length m.prefix) 32 x), lt-ltb 64 (length m.symbols) (leb-false (length m.symbols) 64 y))
-limits_go m array codes xs ys a true true x y =
-    (rw (le-ltb 32 (length m.prefix) (leb-true (length m.prefix) 32 x), le-ltb 64 (length m.symbols) (leb-true (length m.symbols) 64 y)), a)
+limits_go m false q x y = rw (lt-ltb 32 (length m.prefix) (leb-false (length m.prefix) 32 x))
+limits_go m true false x y = rw (le-ltb 32 (length m.prefix) (leb-true (length m.prefix) 32 x), lt-ltb 64 (length m.symbols) (leb-false (length m.symbols) 64 y))
+limits_go m true true x y = rw (le-ltb 32 (length m.prefix) (leb-true (length m.prefix) 32 x), le-ltb 64 (length m.symbols) (leb-true (length m.symbols) 64 y))
 
-limited_go : (size : ℕ) (o : Outcome Meaning) (h : Head) (array codes xs ys : List ℕ) → ReadAs (whole (of_outcome size o)) h array codes xs ys
-    → ReadAs (whole (and_then (of_outcome size o) within_limits)) (limited h) array codes xs ys
-unfolding limited
-limited_go size (fine m) h array codes xs ys q =
-    rw q.0 (limits_go m array codes xs ys q.1 (leb (length m.prefix) 32) (leb (length m.symbols) 64) refl refl)
-limited_go size (refused p) h array codes xs ys q = rw q refl
-limited_go size ends_short h array codes xs ys q = rw q refl
+holds_go : (m : Meaning) (symbols : Symbols) → symbols ≡ symbols_of m → (p q : Bool) → HoldsSign (check p prefix_long 0 (check q signbox_long 0 (done m))) symbols
+holds_go m symbols h false q = tt
+holds_go m symbols h true false = tt
+holds_go m symbols h true true = h
 
-pub read_limited : (set : Charset) (s : List ℕ) (h r : Head) (array codes xs ys : List ℕ) → TextInto set s h array codes xs ys → r ≡ limited h → ReadInto set s r array codes xs ys
-unfolding sign_of
-read_limited set s h r array codes xs ys v e = record { is = rw e (limited_go (length s) (read_sign set s) h array codes xs ys v.is) }
+module _ (set : Charset) (s : List ℕ) (r : Answer Head Refusal) (symbols : Symbols) (v : TextInto set s r symbols) where
+  abbrev text_says : Result Meaning
+  text_says = of_outcome (length s) (read_sign set s)
+
+  read_as : (x : Result Meaning) (ret : Answer Head Refusal) → text_says ≡ x → outcome ret ≡ on_done head_of (and_then x within_limits)
+      → HoldsSign (and_then x within_limits) symbols → ReadInto set s ret symbols
+  unfolding sign_of
+  read_as x ret e q h = record { is = rw e q; holds = rw e h }
+
+  pub read_refused : (e : Refusal) → r ≡ Err e → ReadInto set s (Err e) symbols
+  read_refused e q = read_as (refusal (number_of e) (place_of e)) (Err e) (was_refused head_of text_says r e v.is q) refl tt
+
+  pub read_limited : (h : Head) (ret : Answer Head Refusal) → r ≡ Ok h → ret ≡ limited h → ReadInto set s ret symbols
+  read_limited h ret q l =
+      let d = was_done head_of text_says r h v.is q in
+      let m = d.0 in
+      let k : HoldsSign (done m) symbols = rw d.1.0 at v.holds in
+      read_as (done m) ret d.1.0
+      (ap outcome (l ∙ ap limited (sym d.1.1)) ∙ limits_go m (leb (length m.prefix) 32) (leb (length m.symbols) 64) refl refl)
+      (holds_go m symbols k (leb (length m.prefix) 32) (leb (length m.symbols) 64))
 
 -- THE LIMITS, EXACTLY
 
@@ -113,18 +129,17 @@ unfolding sign_of
 sign_counted set s =
     and_then_counted (of_outcome (length s) (read_sign set s)) within_limits (outcome_counted (length s) (read_sign set s)) within_counted
 
--- What is known of a reading into arrays, by its number.
-pub data Known (set : Charset) (s : List ℕ) (h : Head) (array codes xs ys : List ℕ) : Type 0 where
-  not_read : sign_of set s ≡ refusal h.number h.place → 0 < h.number → Known set s h array codes xs ys
-  was_read : (m : Meaning) → sign_of set s ≡ done m → h ≡ head_of m (length m.prefix) 0 → (array ≡ padded 32 m.prefix) × HoldsSymbols m.symbols codes xs ys
-      → Known set s h array codes xs ys
+-- What is known of a reading into memory, by its answer.
+pub data Known (set : Charset) (s : List ℕ) (r : Answer Head Refusal) (symbols : Symbols) : Type 0 where
+  not_read : (e : Refusal) → r ≡ Err e → sign_of set s ≡ refusal (number_of e) (place_of e) → Known set s r symbols
+  was_read : (m : Meaning) → r ≡ Ok (head_of m) → sign_of set s ≡ done m → symbols ≡ symbols_of m → Known set s r symbols
 
-known_go : (set : Charset) (s : List ℕ) (h : Head) (array codes xs ys : List ℕ) (r : Result Meaning) → sign_of set s ≡ r → ReadAs (whole r) h array codes xs ys
-    → Known set s h array codes xs ys
-known_go set s h array codes xs ys (refusal n p) e q =
-    not_read (e ∙ (λ i. refusal (sym (ap (λ k. k.number) q) i) (sym (ap (λ k. k.place) q) i)))
-    (let a : h.number ≡ n = ap (λ k. k.number) q in omega (arith, sign_counted set s n p e))
-known_go set s h array codes xs ys (done m) e q = was_read m e q.0 q.1
+known_go : (set : Charset) (s : List ℕ) (r : Answer Head Refusal) (symbols : Symbols) (x : Result Meaning) → sign_of set s ≡ x → outcome r ≡ on_done head_of x
+    → HoldsSign x symbols → Known set s r symbols
+known_go set s (Ok h) symbols (refusal n p) e q k = refusal_done n p (sym q)
+known_go set s (Ok h) symbols (done m) e q k = was_read m (let z : h ≡ head_of m = cc in ap Ok z) e k
+known_go set s (Err d) symbols (refusal n p) e q k = not_read d refl (e ∙ on_done_refusal head_of (refusal n p) (number_of d) (place_of d) (sym q))
+known_go set s (Err d) symbols (done m) e q k = refusal_done (number_of d) (place_of d) q
 
-pub known : (set : Charset) (s : List ℕ) (h : Head) (array codes xs ys : List ℕ) → ReadInto set s h array codes xs ys → Known set s h array codes xs ys
-known set s h array codes xs ys v = known_go set s h array codes xs ys (sign_of set s) refl v.is
+pub known : (set : Charset) (s : List ℕ) (r : Answer Head Refusal) (symbols : Symbols) → ReadInto set s r symbols → Known set s r symbols
+known set s r symbols v = known_go set s r symbols (sign_of set s) refl v.is v.holds

@@ -6,7 +6,7 @@ use mathlib.Core.Option.{Option, none, some}
 use lib.ListN.{length, drop}
 use native.Mathlib.Omega.{arith}
 use borrow.Author.Tests.{lt-ltb, le-ltb}
-use Rattle.format.specs.Format.{Format, other, short, optional, many}
+use Rattle.format.specs.Format.{Format, other, optional, many}
 use Rattle.format.specs.Located.{Located, found, wrong_at, short_here, locate, and_then as thenLocated, on_found}
 use Rattle.format.proofs.Delimited.{Delimited, solid}
 use Rattle.format.proofs.At.{delimited_got, sequence_at, Wronged, here, later, wronged, cut_reads}
@@ -17,14 +17,16 @@ use Rattle.charset.specs.Tokens.{Tokens, tokens}
 use Rattle.charset.proofs.Sets.{lawful}
 use Rattle.grammar.specs.Sign.{prefix_symbol, prefix_symbols, prefix, to_prefix}
 use Rattle.grammar.proofs.Sign.{symbol_fixed}
-use Rattle.token.specs.declared.reading.Token.TheVariants as token
-use Rattle.token.specs.Refusal.{text_wrong, text_short}
-use Rattle.token.specs.Result.{Result, refusal, done, of_located, result_at}
-use Rattle.token.specs.Token.{token_at}
+use Rattle.std.specs.Prelude.{Result as Answer, Ok, Err}
+use Rattle.token.specs.declared.refusal.Refusal.{Refusal}
+use Rattle.token.specs.declared.refusal.Refusal.TheVariants.{TextWrong, TextShort}
+use Rattle.token.specs.Refusal.{text_wrong, text_short, number_of, place_of}
+use Rattle.token.specs.Result.{Result, refusal, done, outcome, on_done, of_located, result_at}
+use Rattle.token.specs.Token.{told, token_at}
 use Rattle.token.specs.Padded.{padded, zeros}
-use Rattle.token.proofs.Told.{Told, told_at, told_wrong, told_short}
+use Rattle.token.proofs.Told.{Told, told_at, told_wrong}
 use Rattle.token.proofs.Checks.{refusal_done}
-use Rattle.token.proofs.Results.{located_counted, located_done}
+use Rattle.token.proofs.Results.{located_done}
 use Rattle.token.proofs.PaddedLists.{padded_none}
 use Rattle.reader.specs.declared.arrays.Count.{Count}
 use Rattle.reader.specs.Inner.{count_of, Holds, PrefixIn, Begun, LeadingPrefix}
@@ -32,9 +34,6 @@ use Rattle.reader.proofs.Counts.{was_refused, Read, was_read}
 
 abbrev pub Pre : Type 0
 Pre = Option (ℕ × (ℕ × List ℕ))
-
-abbrev count : ℕ → ℕ → ℕ → Count
-count number place n = record { number = number; place = place; count = n }
 
 empty_list : (s : List ℕ) → length s ≤ 0 → [] ≡ s
 empty_list [] k = refl
@@ -47,14 +46,17 @@ module _ (set : Charset) (s : List ℕ) where
   abbrev size : ℕ
   size = length s
 
-  abbrev told : Located Pre → Result (List ℕ × ℕ)
-  told l = of_located size (on_found to_prefix l)
+  abbrev prefixed : Located Pre → Result (List ℕ × ℕ)
+  prefixed l = of_located size (on_found to_prefix l)
 
-  prefix_as : (l : Located Pre) (x : Result (List ℕ × ℕ)) (array : List ℕ) → locate (optional (prefix t)) s 0 ≡ l → told l ≡ x → Holds 32 (λ c. c) x array
-      → LeadingPrefix set s (count_of x) array
-  prefix_as l x array e q h = record { is = ap count_of (sym (ap told e ∙ q)); holds = rw (ap told e ∙ q) h }
+  prefix_as : (l : Located Pre) (x : Result (List ℕ × ℕ)) (r : Answer Count Refusal) (array : List ℕ) → locate (optional (prefix t)) s 0 ≡ l → prefixed l ≡ x
+      → outcome r ≡ on_done count_of x → Holds 32 (λ c. c) x array → LeadingPrefix set s r array
+  prefix_as l x r array e q o h = record { is = rw (ap prefixed e ∙ q) o; holds = rw (ap prefixed e ∙ q) h }
 
   -- WITHOUT AN A
+
+  abbrev none_read : Answer Count Refusal
+  none_read = Ok (record { count = 0; end = 0 })
 
   marker_d : Delimited t.unit (t.marker 0 0)
   marker_d = ((lawful set).marker 0 0 (omega arith) (omega arith)).delimited
@@ -63,22 +65,36 @@ module _ (set : Charset) (s : List ℕ) where
   not_begun p (here z o) = o
   not_begun p (later rest z k o) = absurd ((lawful set).alone 0 0 (drop 0 s) rest o)
 
-  cut : token_at (t.marker 0 0) s 0 ≡ token.Short → (t.marker 0 0).read (drop 0 s) ≡ short
-  unfolding token_at
-  cut e = cut_reads (t.marker 0 0) s 0 (told_short (locate (t.marker 0 0) s 0) e)
+  begun_at : (p : ℕ) → Wronged t.unit (t.marker 0 0) marker_d s 0 p → p ≡ 0
+  begun_at p (here z o) = z
+  begun_at p (later rest z k o) = absurd ((lawful set).alone 0 0 (drop 0 s) rest o)
 
-  pub prefix_absent : (array : List ℕ) (p : ℕ) → token_at (t.marker 0 0) s 0 ≡ token.Wrong p → array ≡ zeros 32 → LeadingPrefix set s (count 0 0 0) array
+  pub prefix_absent : (array : List ℕ) → token_at (t.marker 0 0) s 0 ≡ Err (TextWrong 0) → array ≡ zeros 32 → LeadingPrefix set s none_read array
   unfolding token_at
-  prefix_absent array p e a =
-      let o = not_begun p (wronged t.unit (t.marker 0 0) marker_d s 0 p (told_wrong (locate (t.marker 0 0) s 0) p e)) in
-      prefix_as (found none 0) (done ([], 0)) array (optional_other (t.marker 0 0) (λ a. prefix_symbols t) s 0 (omega arith) o) refl (a ∙ padded_none 32)
+  prefix_absent array e a =
+      let o = not_begun 0 (wronged t.unit (t.marker 0 0) marker_d s 0 0 (told_wrong size (locate (t.marker 0 0) s 0) 0 e)) in
+      prefix_as (found none 0) (done ([], 0)) none_read array (optional_other (t.marker 0 0) (λ a. prefix_symbols t) s 0 (omega arith) o) refl refl (a ∙ padded_none 32)
 
-  pub prefix_empty : (array : List ℕ) → length s ≤ 0 → array ≡ zeros 32 → LeadingPrefix set s (count 0 0 0) array
+  pub prefix_empty : (array : List ℕ) → length s ≤ 0 → array ≡ zeros 32 → LeadingPrefix set s none_read array
   prefix_empty array k a =
-      prefix_as (found none 0) (done ([], 0)) array (optional_empty (t.marker 0 0) (λ a. prefix_symbols t) s (empty_list s k) marker_d.empty) refl (a ∙ padded_none 32)
+      prefix_as (found none 0) (done ([], 0)) none_read array (optional_empty (t.marker 0 0) (λ a. prefix_symbols t) s (empty_list s k) marker_d.empty) refl refl
+      (a ∙ padded_none 32)
 
-  pub prefix_cut : (array : List ℕ) → token_at (t.marker 0 0) s 0 ≡ token.Short → 0 < length s → LeadingPrefix set s (count text_short size 0) array
-  prefix_cut array e k = prefix_as short_here (refusal text_short size) array (optional_short (t.marker 0 0) (λ a. prefix_symbols t) s 0 k (cut e)) refl tt
+  -- a text that ends within an A
+  cut_go : (array : List ℕ) (l : Located ℕ) (e : Refusal) → locate (t.marker 0 0) s 0 ≡ l → told size l ≡ Err e → (e ≡ TextWrong 0 → ⊥) → 0 < length s
+      → LeadingPrefix set s (Err e) array
+  cut_go array (found a i) e q o z k = absurd (cc o)
+  cut_go array (wrong_at p) e q o z k =
+      let h : TextWrong p ≡ e = cc in
+      absurd (z (sym h ∙ ap TextWrong (begun_at p (wronged t.unit (t.marker 0 0) marker_d s 0 p q))))
+  cut_go array short_here e q o z k =
+      let h : TextShort size ≡ e = cc in
+      prefix_as short_here (refusal text_short size) (Err e) array (optional_short (t.marker 0 0) (λ a. prefix_symbols t) s 0 k (cut_reads (t.marker 0 0) s 0 q)) refl
+      (ap (λ e. outcome {A = Count} (Err e)) (sym h)) tt
+
+  pub prefix_cut : (array : List ℕ) (e : Refusal) → token_at (t.marker 0 0) s 0 ≡ Err e → (e ≡ TextWrong 0 → ⊥) → 0 < length s → LeadingPrefix set s (Err e) array
+  unfolding token_at
+  prefix_cut array e = cut_go array (locate (t.marker 0 0) s 0) e refl
 
   -- AFTER AN A
 
@@ -118,48 +134,49 @@ module _ (set : Charset) (s : List ℕ) where
         optional_begun (t.marker 0 0) (λ a. prefix_symbols t) s 0 a (drop w s) g.reads (omega (arith, n, g.size, g.room))
         ∙ ap (on_found some) prefix-at
 
-    refused-after : (l : Located (List ℕ)) (number place : ℕ) → of_located size l ≡ refusal number place → told (after l) ≡ refusal number place
+    refused-after : (l : Located (List ℕ)) (number place : ℕ) → of_located size l ≡ refusal number place → prefixed (after l) ≡ refusal number place
     refused-after (found l i) number place q = refusal_done number place (sym q)
     refused-after (wrong_at p) number place q = cc
     refused-after short_here number place q = cc
 
-    module _ (r : Count) (array : List ℕ) (v : PrefixIn set s w r array) where
-      pub prefix-bad : (r.number ≡ 0 → ⊥) → LeadingPrefix set s (count r.number r.place 0) array
-      prefix-bad z =
-          prefix_as (after many-found) (refusal r.number r.place) array optional-at
-          (refused-after many-found r.number r.place (was_refused (result_at (many pre) s w) r v.is z)) tt
+    module _ (r : Answer Count Refusal) (array : List ℕ) (v : PrefixIn set s w r array) where
+      pub prefix-bad : (e : Refusal) → r ≡ Err e → LeadingPrefix set s (Err e) array
+      prefix-bad e q =
+          prefix_as (after many-found) (refusal (number_of e) (place_of e)) (Err e) array optional-at
+          (refused-after many-found (number_of e) (place_of e) (was_refused count_of (result_at (many pre) s w) r e v.is q)) refl tt
 
-      read : r.number ≡ 0 → Read (result_at (many pre) s w) r
-      read z = was_read (result_at (many pre) s w) r (located_counted size many-found) v.is z
+      module _ (c : Count) (q : r ≡ Ok c) where
+        read : Read (result_at (many pre) s w) c
+        read = was_read (result_at (many pre) s w) r c v.is q
 
-      there : (z : r.number ≡ 0) → many-found ≡ found (read z).symbols r.place
-      there z = located_done size many-found (read z).symbols r.place (read z).is
+        there : many-found ≡ found read.symbols c.end
+        there = located_done size many-found read.symbols c.end read.is
 
-      -- no symbol after the A
-      none-go : (l : List ℕ) → many-found ≡ found l r.place → length l ≡ 0 → many-found ≡ found [] r.place
-      none-go [] e z = e
-      none-go (c ∷ l) e z = absurd (omega arith)
+        -- no symbol after the A
+        none-go : (l : List ℕ) → many-found ≡ found l c.end → length l ≡ 0 → many-found ≡ found [] c.end
+        none-go [] e z = e
+        none-go (c ∷ l) e z = absurd (omega arith)
 
-      none_found : r.number ≡ 0 → r.count ≤ 0 → many-found ≡ found [] r.place
-      none_found z n = let c = (read z).count in none-go (read z).symbols (there z) (omega arith)
+        none_there : c.count ≤ 0 → locate (optional (prefix t)) s 0 ≡ after (found [] c.end)
+        none_there n = let k = read.count in optional-at ∙ ap after (none-go read.symbols there (omega arith))
 
-      none_there : (z : r.number ≡ 0) (n : r.count ≤ 0) → locate (optional (prefix t)) s 0 ≡ after (found [] r.place)
-      none_there z n = optional-at ∙ ap after (none_found z n)
+        pub prefix_none : c.count ≤ 0 → c.end < length s → LeadingPrefix set s (Err (TextWrong c.end)) array
+        prefix_none n p =
+            prefix_as (wrong_at c.end) (refusal text_wrong c.end) (Err (TextWrong c.end)) array (none_there n ∙ rw (lt-ltb c.end size p)) refl refl tt
 
-      pub prefix_none : r.number ≡ 0 → r.count ≤ 0 → r.place < length s → LeadingPrefix set s (count text_wrong r.place 0) array
-      prefix_none z n p = prefix_as (wrong_at r.place) (refusal text_wrong r.place) array (none_there z n ∙ rw (lt-ltb r.place size p)) refl tt
+        pub prefix_none_cut : c.count ≤ 0 → length s ≤ c.end → LeadingPrefix set s (Err (TextShort (length s))) array
+        prefix_none_cut n p =
+            prefix_as short_here (refusal text_short size) (Err (TextShort (length s))) array (none_there n ∙ rw (le-ltb c.end size p)) refl refl tt
 
-      pub prefix_none_cut : r.number ≡ 0 → r.count ≤ 0 → length s ≤ r.place → LeadingPrefix set s (count text_short size 0) array
-      prefix_none_cut z n p = prefix_as short_here (refusal text_short size) array (none_there z n ∙ rw (le-ltb r.place size p)) refl tt
+        -- symbols after the A
+        some_go : (l : List ℕ) → many-found ≡ found l c.end → c.count ≡ length l → 0 < c.count → array ≡ padded 32 (map (λ c. c) l)
+            → LeadingPrefix set s (Ok c) array
+        some_go [] e k n p = absurd (omega arith)
+        some_go (d ∷ l) e k n p =
+            prefix_as (after (found (d ∷ l) c.end)) (done (d ∷ l, c.end)) (Ok c) array (optional-at ∙ ap after e) refl
+            (λ i. done (record { count = k i; end = c.end })) p
 
-      -- symbols after the A
-      some_go : (l : List ℕ) → many-found ≡ found l r.place → r.count ≡ length l → 0 < r.count → array ≡ padded 32 (map (λ c. c) l)
-          → LeadingPrefix set s (count 0 r.place r.count) array
-      some_go [] e c n p = absurd (omega arith)
-      some_go (d ∷ l) e c n p =
-          rw c (prefix_as (after (found (d ∷ l) r.place)) (done (d ∷ l, r.place)) array (optional-at ∙ ap after e) refl p)
-
-      pub prefix-some : r.number ≡ 0 → 0 < r.count → LeadingPrefix set s (count 0 r.place r.count) array
-      prefix-some z n =
-          let p : array ≡ padded 32 (map (λ c. c) (read z).symbols) = rw (read z).is at v.holds in
-          some_go (read z).symbols (there z) (read z).count n p
+        pub prefix-some : 0 < c.count → LeadingPrefix set s (Ok c) array
+        prefix-some n =
+            let p : array ≡ padded 32 (map (λ c. c) read.symbols) = rw read.is at v.holds in
+            some_go read.symbols there read.count n p

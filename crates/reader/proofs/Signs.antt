@@ -2,7 +2,7 @@
 use Prim.Native.Nat.{ℕ, ◌≤◌}
 use mathlib.Core.List.{List, map, map-id}
 use mathlib.Core.Path.{◌≡◌, refl, sym, ap, ◌∙◌}
-use lib.ListN.{length}
+use lib.ListN.{length, length-map}
 use native.Mathlib.Omega.{arith}
 use Rattle.format.specs.Format.{optional}
 use Rattle.format.specs.Located.{Located, found, wrong_at, short_here, locate, and_then as thenLocated, on_found}
@@ -11,16 +11,19 @@ use Rattle.format.proofs.At.{got, mapped_at, sequence_at_got}
 use Rattle.charset.specs.declared.Charset.{Charset}
 use Rattle.charset.specs.Tokens.{Tokens, tokens}
 use Rattle.charset.proofs.Sets.{lawful}
-use Rattle.grammar.specs.Sign.{Meaning, Valid, prefix, signbox, parts, sign, to_prefix, to_meaning, of_meaning}
+use Rattle.grammar.specs.Sign.{Meaning, Valid, prefix, signbox, parts, sign, to_spatial, to_prefix, to_meaning, of_meaning}
 use Rattle.grammar.proofs.Sign.{prefix_lawful}
+use Rattle.std.specs.Prelude.{Result as Answer, Ok, Err}
+use Rattle.token.specs.declared.refusal.Refusal.{Refusal}
 use Rattle.token.specs.Padded.{padded}
-use Rattle.token.specs.Refusal.{text_wrong, text_short}
-use Rattle.token.specs.Result.{Result, refusal, done, on_done, of_located, result_at}
+use Rattle.token.specs.Refusal.{text_wrong, text_short, number_of, place_of}
+use Rattle.token.specs.Result.{Result, refusal, done, outcome, on_done, of_located, result_at}
 use Rattle.token.proofs.Checks.{refusal_done}
-use Rattle.token.proofs.Results.{located_counted, on_result}
+use Rattle.token.proofs.Results.{on_result}
+use Rattle.grammar.specs.declared.Head.{Head}
+use Rattle.grammar.specs.declared.Symbols.{Symbols}
 use Rattle.reader.specs.declared.arrays.Count.{Count}
-use Rattle.reader.specs.declared.arrays.Head.{Head}
-use Rattle.reader.specs.Inner.{head_of, no_head, prefix_at, LeadingPrefix, BoxAs, SignboxIn, ReadAs, SignInto}
+use Rattle.reader.specs.Inner.{count_of, head_of, box_head, HoldsBox, HoldsSign, prefix_at, LeadingPrefix, SignboxIn, SignInto}
 use Rattle.reader.proofs.Counts.{was_refused, Read, was_read}
 use Rattle.reader.proofs.Prefixes.{Pre}
 use Rattle.reader.proofs.Signboxes.{Box}
@@ -29,10 +32,15 @@ use Rattle.reader.proofs.Signboxes.{Box}
 abbrev signed : Pre → Result (Box × ℕ) → Result (Meaning × ℕ)
 signed p = on_done (λ b. (to_meaning (p, b.0), b.1))
 
-read_go : (n : ℕ) (p : Pre) (x : Result (Box × ℕ)) (h : Head) (array codes xs ys : List ℕ) → n ≡ length (to_prefix p) → array ≡ padded 32 (to_prefix p)
-    → BoxAs n x h codes xs ys → ReadAs (signed p x) h array codes xs ys
-read_go n p (refusal number place) h array codes xs ys k a q = q
-read_go n p (done b) h array codes xs ys k a q = (q.0 ∙ λ i. head_of (to_meaning (p, b.0)) (k i) b.1, (a, q.1))
+said_go : (n : ℕ) (p : Pre) (x : Result (Box × ℕ)) → n ≡ length (to_prefix p) → on_done {B = Head × ℕ} (λ b. (box_head n b.0, b.1)) x ≡ on_done {B = Head × ℕ} (λ b. (head_of b.0, b.1)) (signed p x)
+said_go n p (refusal number place) k = refl
+said_go n p (done b) k =
+    λ i. done (record { marker = b.0.0.0; max_x = b.0.0.1.0; max_y = b.0.0.1.1; prefix_count = k i; symbol_count = sym (length-map b.0.1 to_spatial) i }, b.1)
+
+held_go : (p : Pre) (x : Result (Box × ℕ)) (symbols : Symbols) → symbols.prefix ≡ padded 32 (to_prefix p) → HoldsBox x symbols
+    → HoldsSign (on_done (λ b. b.0) (signed p x)) symbols
+held_go p (refusal number place) symbols a h = tt
+held_go p (done b) symbols a h = λ i. record { prefix = a i; codes = h.codes i; xs = h.xs i; ys = h.ys i }
 
 abbrev meant : Result ((Pre × Box) × ℕ) → Result (Meaning × ℕ)
 meant = on_done (λ p. (to_meaning p.0, p.1))
@@ -78,7 +86,11 @@ module _ (set : Charset) (s : List ℕ) where
       (got t.unit (optional (prefix t)) (optional_lawful t.unit (prefix t) (prefix_lawful t (lawful set))) s 0 (omega arith))
       ∙ ap (λ l. thenLocated l goes) e)
 
-  module _ (r : Count) (array : List ℕ) (v : LeadingPrefix set s r array) where
+  sign_as : (x : Result (Meaning × ℕ)) (r : Answer (Head × ℕ) Refusal) (symbols : Symbols) → result_at (sign set) s 0 ≡ x
+      → outcome r ≡ on_done (λ p. (head_of p.0, p.1)) x → HoldsSign (on_done (λ p. p.0) x) symbols → SignInto set s r symbols
+  sign_as x r symbols e q h = record { is = rw e q; holds = rw e h }
+
+  module _ (r : Answer Count Refusal) (array : List ℕ) (v : LeadingPrefix set s r array) where
     -- the prefix is refused
     refused_go : (l : Located Pre) (number place : ℕ) → of_located size (on_found to_prefix l) ≡ refusal number place
         → of_located size (thenLocated l goes) ≡ refusal number place
@@ -86,24 +98,27 @@ module _ (set : Charset) (s : List ℕ) where
     refused_go (wrong_at p) number place e = cc
     refused_go short_here number place e = cc
 
-    pub sign_refused : (codes xs ys : List ℕ) (h : Head) → (r.number ≡ 0 → ⊥) → h ≡ no_head r.number r.place → SignInto set s h array codes xs ys
-    sign_refused codes xs ys h z q =
-        record { is = rw (sign_at before refl ∙ ap meant (refused_go before r.number r.place (was_refused (prefix_at set s) r v.is z))) q }
+    pub sign_refused : (symbols : Symbols) (e : Refusal) → r ≡ Err e → SignInto set s (Err e) symbols
+    sign_refused symbols e q =
+        sign_as (refusal (number_of e) (place_of e)) (Err e) symbols
+        (sign_at before refl ∙ ap meant (refused_go before (number_of e) (place_of e) (was_refused count_of (prefix_at set s) r e v.is q))) refl tt
 
     -- the prefix is read, or there is none
-    read : r.number ≡ 0 → Read (prefix_at set s) r
-    read z = was_read (prefix_at set s) r (located_counted size (on_found to_prefix before)) v.is z
+    module _ (c : Count) (q : r ≡ Ok c) where
+      read : Read (prefix_at set s) c
+      read = was_read (prefix_at set s) r c v.is q
 
-    there : (z : r.number ≡ 0) → There before (read z).symbols r.place
-    there z = there_go size before (read z).symbols r.place (read z).is
+      there : There before read.symbols c.end
+      there = there_go size before read.symbols c.end read.is
 
-    pub prefix_inside : r.number ≡ 0 → r.place ≤ length s
-    prefix_inside z = prefix_got (there z).pre r.place (there z).is
+      pub prefix_inside : c.end ≤ length s
+      prefix_inside = prefix_got there.pre c.end there.is
 
-    pub sign_read : (codes xs ys : List ℕ) (h : Head) → r.number ≡ 0 → SignboxIn set s r.place r.count h codes xs ys → SignInto set s h array codes xs ys
-    sign_read codes xs ys h z b =
-        let d = there z in
-        let a : array ≡ padded 32 (map (λ c. c) (read z).symbols) = rw (read z).is at v.holds in
-        let n : r.count ≡ length (to_prefix d.pre) = (read z).count ∙ ap length (sym d.symbols_are) in
-        let q = read_go r.count d.pre (result_at (signbox t) s r.place) h array codes xs ys n (a ∙ ap (padded 32) (map-id (read z).symbols ∙ sym d.symbols_are)) b.is in
-        record { is = rw (sign_at (found d.pre r.place) d.is ∙ meant_signed size d.pre (locate (signbox t) s r.place)) q }
+      pub sign_read : (ret : Answer (Head × ℕ) Refusal) (old new : Symbols) → old.prefix ≡ array → SignboxIn set s c.end c.count ret old new → SignInto set s ret new
+      sign_read ret old new o b =
+          let a : array ≡ padded 32 (map (λ c. c) read.symbols) = rw read.is at v.holds in
+          let n : c.count ≡ length (to_prefix there.pre) = read.count ∙ ap length (sym there.symbols_are) in
+          let x : Result (Box × ℕ) = result_at (signbox t) s c.end in
+          sign_as (signed there.pre x) ret new (sign_at (found there.pre c.end) there.is ∙ meant_signed size there.pre (locate (signbox t) s c.end))
+          (b.is ∙ said_go c.count there.pre x n)
+          (held_go there.pre x new (b.prefix ∙ o ∙ a ∙ ap (padded 32) (map-id read.symbols ∙ sym there.symbols_are)) b.holds)

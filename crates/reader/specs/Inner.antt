@@ -1,120 +1,107 @@
--- What the inner functions of reading a sign promise: what they answer, and what the lent arrays hold.
-use Rattle.std.specs.Prelude.{ℕ, ◌≡◌, List, map, Bool, true, false, eqb, ltb, length}
-use Rattle.std.proofs.Math.Option.{none}
+-- What the functions of reading a sign promise: what they answer, and what the lent memory holds.
+use Rattle.std.specs.Prelude.{Result as Answer, Ok, Err, ℕ, ◌≡◌, List, map, ltb, length}
 use Rattle.format.specs.Format.{choose, optional, many}
 use Rattle.format.specs.Located.{locate, on_found}
 use Rattle.charset.specs.declared.Charset.{Charset}
 use Rattle.charset.specs.Tokens.{tokens}
-use Rattle.token.specs.declared.reading.Token.TheVariants as token
-use Rattle.token.specs.Refusal.{text_wrong, text_short, prefix_long, signbox_long}
-use Rattle.token.specs.Result.{Result, refusal, done, on_done, of_outcome, of_located, result_at}
+use Rattle.token.specs.declared.refusal.Refusal.{Refusal}
+use Rattle.token.specs.declared.refusal.Refusal.TheVariants.{PrefixLong, SignboxLong}
+use Rattle.token.specs.Result.{Result, refusal, done, outcome, on_done, of_outcome, of_located, result_at}
 use Rattle.token.specs.Token.{token_at}
-use Rattle.token.specs.Ends.{left_over}
-use Rattle.grammar.specs.Sign.{Spatial, Meaning, prefix_symbol, prefix, spatial, signbox, sign, to_spatial, to_prefix, to_meaning, read_sign}
+use Rattle.grammar.specs.declared.Head.{Head}
+use Rattle.grammar.specs.declared.Symbols.{Symbols}
+use Rattle.grammar.specs.Sign.{Spatial, Meaning, prefix_symbol, prefix, spatial, signbox, sign, to_spatial, to_prefix, read_sign}
 use Rattle.reader.specs.declared.arrays.Count.{Count}
-use Rattle.reader.specs.declared.arrays.Head.{Head}
-use Rattle.token.specs.Padded.{padded}
+use Rattle.token.specs.Padded.{padded, zeros}
 use Rattle.reader.specs.Signs.{sign_of}
 
 -- zero or more, counted; and a lent array that holds the first n of them
-abbrev pub count_of : {A : Type 0} → Result (List A × ℕ) → Count
-count_of (refusal number place) = record { number = number; place = place; count = 0 }
-count_of (done p) = record { number = 0; place = p.1; count = length p.0 }
+abbrev pub count_of : {A : Type 0} → List A × ℕ → Count
+count_of p = record { count = length p.0; end = p.1 }
 
 abbrev pub Holds : {A : Type 0} → ℕ → (A → ℕ) → Result (List A × ℕ) → List ℕ → Type 0
 Holds n of (refusal number place) array = Unit
 Holds n of (done p) array = array ≡ padded n (map of p.0)
 
-pub record PrefixIn (set : Charset) (s : List ℕ) (at : ℕ) (r : Count) (codes : List ℕ) : Type 0 where
-  pub is : r ≡ count_of (result_at (many (prefix_symbol (tokens set))) s at)
+pub record PrefixIn (set : Charset) (s : List ℕ) (at : ℕ) (r : Answer Count Refusal) (codes : List ℕ) : Type 0 where
+  pub is : outcome r ≡ on_done count_of (result_at (many (prefix_symbol (tokens set))) s at)
   pub holds : Holds 32 (λ c. c) (result_at (many (prefix_symbol (tokens set))) s at) codes
 
-pub record SymbolsIn (set : Charset) (s : List ℕ) (at : ℕ) (r : Count) (codes xs ys : List ℕ) : Type 0 where
-  pub is : r ≡ count_of (result_at (many (spatial (tokens set))) s at)
-  pub holds_codes : Holds 64 (λ p. p.0) (result_at (many (spatial (tokens set))) s at) codes
-  pub holds_xs : Holds 64 (λ p. p.1.0) (result_at (many (spatial (tokens set))) s at) xs
-  pub holds_ys : Holds 64 (λ p. p.1.1) (result_at (many (spatial (tokens set))) s at) ys
+-- memory with no signbox symbols yet
+pub record Room (symbols : Symbols) : Type 0 where
+  pub codes : symbols.codes ≡ zeros 64
+  pub xs : symbols.xs ≡ zeros 64
+  pub ys : symbols.ys ≡ zeros 64
 
--- the numbers of a sign with n prefix symbols that ends at a place, and of a refusal
-abbrev pub head_of : Meaning → ℕ → ℕ → Head
-head_of m n place = record {
-  number = 0;
-  place = place;
-  marker = m.marker;
-  max_x = m.x;
-  max_y = m.y;
-  prefix_count = n;
-  symbol_count = length m.symbols;
+pub record SymbolsIn (set : Charset) (s : List ℕ) (at : ℕ) (r : Answer Count Refusal) (old new : Symbols) : Type 0 where
+  pub is : outcome r ≡ on_done count_of (result_at (many (spatial (tokens set))) s at)
+  pub prefix : new.prefix ≡ old.prefix
+  pub holds_codes : Holds 64 (λ p. p.0) (result_at (many (spatial (tokens set))) s at) new.codes
+  pub holds_xs : Holds 64 (λ p. p.1.0) (result_at (many (spatial (tokens set))) s at) new.xs
+  pub holds_ys : Holds 64 (λ p. p.1.1) (result_at (many (spatial (tokens set))) s at) new.ys
+
+-- the numbers of a sign, and its symbols as they lie in memory
+abbrev pub head_of : Meaning → Head
+head_of m = record { marker = m.marker; max_x = m.x; max_y = m.y; prefix_count = length m.prefix; symbol_count = length m.symbols }
+
+abbrev pub symbols_of : Meaning → Symbols
+symbols_of m = record {
+  prefix = padded 32 m.prefix;
+  codes = padded 64 (map (λ s. s.code) m.symbols);
+  xs = padded 64 (map (λ s. s.x) m.symbols);
+  ys = padded 64 (map (λ s. s.y) m.symbols);
 }
 
-abbrev pub no_head : ℕ → ℕ → Head
-no_head number place = record { number = number; place = place; marker = 0; max_x = 0; max_y = 0; prefix_count = 0; symbol_count = 0 }
+-- the numbers of a signbox after a prefix of n symbols
+abbrev pub box_head : ℕ → (ℕ × (ℕ × ℕ)) × List (ℕ × (ℕ × ℕ)) → Head
+box_head n b = record { marker = b.0.0; max_x = b.0.1.0; max_y = b.0.1.1; prefix_count = n; symbol_count = length b.1 }
 
-abbrev pub HoldsSymbols : List Spatial → List ℕ → List ℕ → List ℕ → Type 0
-HoldsSymbols l codes xs ys =
-    (codes ≡ padded 64 (map (λ s. s.code) l)) × ((xs ≡ padded 64 (map (λ s. s.x) l)) × (ys ≡ padded 64 (map (λ s. s.y) l)))
+pub record HoldsSpatial (l : List Spatial) (symbols : Symbols) : Type 0 where
+  pub codes : symbols.codes ≡ padded 64 (map (λ s. s.code) l)
+  pub xs : symbols.xs ≡ padded 64 (map (λ s. s.x) l)
+  pub ys : symbols.ys ≡ padded 64 (map (λ s. s.y) l)
+
+abbrev pub HoldsBox : Result (((ℕ × (ℕ × ℕ)) × List (ℕ × (ℕ × ℕ))) × ℕ) → Symbols → Type 0
+HoldsBox (refusal number place) symbols = Unit
+HoldsBox (done p) symbols = HoldsSpatial (map to_spatial p.0.1) symbols
 
 -- a signbox that was read after a prefix of n symbols, and where it ends
-abbrev pub BoxAs : ℕ → Result (((ℕ × (ℕ × ℕ)) × List (ℕ × (ℕ × ℕ))) × ℕ) → Head → List ℕ → List ℕ → List ℕ → Type 0
-BoxAs n (refusal number place) h codes xs ys = h ≡ no_head number place
-BoxAs n (done p) h codes xs ys = (h ≡ head_of (to_meaning (none, p.0)) n p.1) × HoldsSymbols (map to_spatial p.0.1) codes xs ys
-
-pub record SignboxIn (set : Charset) (s : List ℕ) (at n : ℕ) (h : Head) (codes xs ys : List ℕ) : Type 0 where
-  pub is : BoxAs n (result_at (signbox (tokens set)) s at) h codes xs ys
+pub record SignboxIn (set : Charset) (s : List ℕ) (at n : ℕ) (r : Answer (Head × ℕ) Refusal) (old new : Symbols) : Type 0 where
+  pub is : outcome r ≡ on_done (λ p. (box_head n p.0, p.1)) (result_at (signbox (tokens set)) s at)
+  pub prefix : new.prefix ≡ old.prefix
+  pub holds : HoldsBox (result_at (signbox (tokens set)) s at) new
 
 -- a text that begins with the A of a prefix
 pub record Begun (set : Charset) (s : List ℕ) : Type 0 where
   pub marker : ℕ
-  pub is : token_at ((tokens set).marker 0 0) s 0 ≡ token.Value marker
+  pub is : token_at ((tokens set).marker 0 0) s 0 ≡ Ok marker
 
 -- the prefix at the start of a text, empty where there is none, and where it ends
 abbrev pub prefix_at : Charset → List ℕ → Result (List ℕ × ℕ)
 prefix_at set s = of_located (length s) (on_found to_prefix (locate (optional (prefix (tokens set))) s 0))
 
-pub record LeadingPrefix (set : Charset) (s : List ℕ) (r : Count) (codes : List ℕ) : Type 0 where
-  pub is : r ≡ count_of (prefix_at set s)
+pub record LeadingPrefix (set : Charset) (s : List ℕ) (r : Answer Count Refusal) (codes : List ℕ) : Type 0 where
+  pub is : outcome r ≡ on_done count_of (prefix_at set s)
   pub holds : Holds 32 (λ c. c) (prefix_at set s) codes
 
--- a sign that was read, in lent arrays, and its place
-abbrev pub ReadAs : Result (Meaning × ℕ) → Head → List ℕ → List ℕ → List ℕ → List ℕ → Type 0
-ReadAs (refusal number place) h array codes xs ys = h ≡ no_head number place
-ReadAs (done p) h array codes xs ys =
-    (h ≡ head_of p.0 (length p.0.prefix) p.1) × ((array ≡ padded 32 p.0.prefix) × HoldsSymbols p.0.symbols codes xs ys)
+-- memory that holds the symbols of a sign that was read
+abbrev pub HoldsSign : Result Meaning → Symbols → Type 0
+HoldsSign (refusal number place) symbols = Unit
+HoldsSign (done m) symbols = symbols ≡ symbols_of m
 
 -- the sign that stands at the start, and where it ends
-pub record SignInto (set : Charset) (s : List ℕ) (h : Head) (prefix codes xs ys : List ℕ) : Type 0 where
-  pub is : ReadAs (result_at (sign set) s 0) h prefix codes xs ys
+pub record SignInto (set : Charset) (s : List ℕ) (r : Answer (Head × ℕ) Refusal) (symbols : Symbols) : Type 0 where
+  pub is : outcome r ≡ on_done (λ p. (head_of p.0, p.1)) (result_at (sign set) s 0)
+  pub holds : HoldsSign (on_done (λ p. p.0) (result_at (sign set) s 0)) symbols
 
--- what the whole text says, and what is within the limits: neither has a place
-abbrev pub whole : Result Meaning → Result (Meaning × ℕ)
-whole = on_done (λ m. (m, 0))
+-- what the whole text says, and what is within the limits
+pub record TextInto (set : Charset) (s : List ℕ) (r : Answer Head Refusal) (symbols : Symbols) : Type 0 where
+  pub is : outcome r ≡ on_done head_of (of_outcome (length s) (read_sign set s))
+  pub holds : HoldsSign (of_outcome (length s) (read_sign set s)) symbols
 
-pub record TextInto (set : Charset) (s : List ℕ) (h : Head) (prefix codes xs ys : List ℕ) : Type 0 where
-  pub is : ReadAs (whole (of_outcome (length s) (read_sign set s))) h prefix codes xs ys
+unfoldable pub limited : Head → Answer Head Refusal
+limited h = choose (ltb 32 h.prefix_count) (Err PrefixLong) (choose (ltb 64 h.symbol_count) (Err SignboxLong) (Ok h))
 
--- a sign that was read from a text of so many bytes, if nothing follows it
-unfoldable pub ended_head : Charset → ℕ → Head → Head
-ended_head set size h =
-    choose (eqb h.number 0)
-    (choose (eqb (left_over set size h.place) text_wrong) (no_head text_wrong h.place)
-    (choose (eqb (left_over set size h.place) text_short) (no_head text_short size)
-    (record { number = 0; place = 0; marker = h.marker; max_x = h.max_x; max_y = h.max_y; prefix_count = h.prefix_count; symbol_count = h.symbol_count })))
-    h
-
-unfoldable pub limited : Head → Head
-limited h =
-    choose (eqb h.number 0)
-    (choose (ltb 32 h.prefix_count) (no_head prefix_long 0)
-    (choose (ltb 64 h.symbol_count) (no_head signbox_long 0) h))
-    h
-
-pub record ReadInto (set : Charset) (s : List ℕ) (h : Head) (prefix codes xs ys : List ℕ) : Type 0 where
-  pub is : ReadAs (whole (sign_of set s)) h prefix codes xs ys
-
--- the sign at the start, or what the whole text says
-abbrev pub start_or_whole : Charset → List ℕ → Bool → Result (Meaning × ℕ)
-start_or_whole set s false = result_at (sign set) s 0
-start_or_whole set s true = whole (sign_of set s)
-
-pub record StartOrWhole (set : Charset) (s : List ℕ) (all : Bool) (h : Head) (prefix codes xs ys : List ℕ) : Type 0 where
-  pub is : ReadAs (start_or_whole set s all) h prefix codes xs ys
+pub record ReadInto (set : Charset) (s : List ℕ) (r : Answer Head Refusal) (symbols : Symbols) : Type 0 where
+  pub is : outcome r ≡ on_done head_of (sign_of set s)
+  pub holds : HoldsSign (sign_of set s) symbols

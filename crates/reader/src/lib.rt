@@ -1,4 +1,4 @@
-// Reading a sign into lent arrays.
+// Reading a sign into lent memory.
 #![tactic(auto)]
 
 pub mod arrays;

@@ -4,12 +4,15 @@ use mathlib.Core.Path.{◌≡◌, refl, sym, ap, ◌∙◌}
 use mathlib.Core.List.{List, ◌++◌}
 use mathlib.Core.Bool.{Bool, true, false, not, ◌&&◌, and-eq-true_iff}
 use native.Mathlib.Omega.{arith}
-use borrow.Author.Tests.{leb-true, le-ltb, le-leb, lt-leb, eq-eqb, ne_eqb, not-true, not-false}
+use borrow.Author.Tests.{leb-true, le-ltb, le-leb, lt-leb, not-true, not-false}
 use lib.Dec.{leb, lit<}
-use lib.ListN.{length, take, drop}
+use lib.ListN.{length, take, drop, length-append, length-drop}
 use lib.Seq.{take-append_seam}
+use Rattle.std.proofs.lemmas.List.{take-append-drop}
 use Rattle.charset.specs.declared.Charset.TheVariants.{Fsw}
-use Rattle.token.specs.Refusal.{too_many}
+use Rattle.token.specs.declared.refusal.Refusal.{Refusal}
+use Rattle.token.specs.Refusal.{too_many, number_of, place_of}
+use Rattle.token.proofs.Refusals.{counted}
 use Rattle.token.specs.Result.{Result, refusal, done, on_done, in_room, left_as, output}
 use Rattle.token.proofs.Checks.{Counted, check_done, check_counted, on_done_counted}
 use Rattle.querygrammar.specs.declared.Edition.TheVariants.{First}
@@ -24,18 +27,17 @@ use Rattle.narrowing.proofs.Distinct.{rising_distinct}
 use Rattle.arrangement.proofs.Merging.{arranged_length}
 use Rattle.entries.specs.Entries.{entries_of}
 use Rattle.entries.specs.Judging.{meets}
-use Rattle.books.specs.Book.{Book, book_of}
+use Rattle.books.specs.Book.{book_of}
 use Rattle.books.specs.Forms.{GoodBy}
-use Rattle.books.specs.Sorting.{entry_before, list_after}
+use Rattle.books.specs.Sorting.{entry_before, list_after, sorted_in}
 use Rattle.books.proofs.Fills.{found_sound, sound_good, search_laws}
 use Rattle.books.proofs.Sorting.{good_sorted}
 use Rattle.sorting.specs.Sorting.{sorted}
-use Rattle.searching.specs.declared.Searched.{Searched}
-use Rattle.searching.specs.Searching.{not_searched, searched_as}
+use Rattle.searching.specs.Searching.{Searched, not_searched, searched_as}
 use Rattle.dictionary.specs.Narrowing.{test_of}
 use Rattle.dictionary.specs.Search.{found, searched}
 use Rattle.report.specs.Report.{within, refusal_text, found_text, result_text, found_within, search_text, arranged_in, sorted_text}
-use Rattle.report.specs.Inner.{Finds, answer_text}
+use Rattle.report.specs.Inner.{Finds, Filled, told_in}
 
 -- ---- the three sizes
 
@@ -131,48 +133,77 @@ module _ (query dict : List ℕ) where
 
 -- ---- what is told
 
-module _ (r : Searched) (list : List ℕ) where
-  pub tells_refusal : (r.number ≡ 0 → ⊥) → refusal_text r.number r.place ≡ answer_text r list
-  unfolding answer_text
-  tells_refusal z = rw (ne_eqb r.number 0 z)
+-- what an accepted search leaves
+pub record Leaves (query dict after : List ℕ) (lines_told written : ℕ) : Type 0 where
+  pub entries : List ℕ
+  pub found : found_within query dict ≡ done entries
+  pub lines : lines_told ≡ length (lines dict)
+  pub many : written ≡ length entries
+  pub filled : Filled dict after entries
 
-  pub tells_found : r.number ≡ 0 → found_text r.lines (take r.written list) ≡ answer_text r list
-  unfolding answer_text
-  tells_found z = rw (eq-eqb r.number 0 z)
-
-  -- a search that came to x, where the list has its entries as `order` puts them
-  told : (n : ℕ) (order : List ℕ → List ℕ) (x : Result (List ℕ)) → Counted x → r ≡ searched_as n x
-      → ((entries : List ℕ) → x ≡ done entries → take (length entries) list ≡ order entries) → answer_text r list ≡ result_text n (on_done order x)
-  unfolding answer_text result_text
-  told n order (refusal number place) counted e stand = rw (e, ne_eqb number 0 (λ z. omega (arith, counted number place refl)))
-  told n order (done entries) counted e stand = rw (e, stand entries refl)
-
-same_order : (x : Result (List ℕ)) → on_done (λ k. k) x ≡ x
-same_order (refusal number place) = refl
-same_order (done k) = refl
-
-module _ {query dict list after : List ℕ} {r : Searched} (f : Finds query dict list r after) where
-  pub as_found : answer_text r after ≡ search_text query dict
-  unfolding search_text
-  as_found =
-      told r after (length (lines dict)) (λ k. k) (found_within query dict) (found_counted query dict) f.answer
-      (λ k e. rw (f.memory, e) (take-append_seam k (drop (length k) list)))
-      ∙ ap (result_text (length (lines dict))) (same_order (found_within query dict))
-
-  pub as_sorted : (spare : List ℕ) → length spare ≡ 1024 → (sortedList : List ℕ)
-      → sortedList ≡ list_after after r.written (sorted Fsw dict after r.written spare) → answer_text r sortedList ≡ sorted_text query dict
-  unfolding sorted_text sorted
-  as_sorted spare m sortedList s =
-      told r sortedList (length (lines dict)) (arranged_in dict) (found_within query dict) (found_counted query dict) f.answer stand
+module _ {query dict list after : List ℕ} where
+  pub accepted : (lines_told written : ℕ) → length list ≡ 1024 → Finds query dict list (record { number = 0; place = 0; lines = lines_told; written = written }) after
+      → Leaves query dict after lines_told written
+  accepted l w m f = go (found_within query dict) refl f.answer f.memory
     where
-      b : Book
-      b = book_of (Fsw, dict)
+      go : (x : Result (List ℕ)) → found_within query dict ≡ x → record { number = 0; place = 0; lines = l; written = w } ≡ searched_as (length (lines dict)) x
+          → after ≡ left_as list x → Leaves query dict after l w
+      go (refusal number place) e p k = absurd (omega (arith, found_counted query dict number place e, ap (λ r. r.number) p))
+      go (done entries) e p k =
+          let few = (was_found query dict entries e).few_entries in
+          record {
+            entries = entries;
+            found = e;
+            lines = ap (λ r. r.lines) p;
+            many = ap (λ r. r.written) p;
+            filled = record {
+              query = query;
+              found = e;
+              long = ap length k ∙ omega (arith, length-append entries (drop (length entries) list), length-drop (length entries) list);
+              front = ap (take (length entries)) k ∙ take-append_seam entries (drop (length entries) list);
+            };
+          }
 
-      stand : (k : List ℕ) → found_within query dict ≡ done k → take (length k) sortedList ≡ arranged_in dict k
-      stand k e =
-          let w = was_found query dict k e in
-          let n : r.written ≡ length k = ap (λ o. o.written) (f.answer ∙ ap (searched_as (length (lines dict))) e) in
-          let memory : after ≡ k ++ drop (length k) list = f.memory ∙ ap (left_as list) e in
-          let is : sortedList ≡ arranged_in dict k ++ drop (length k) after =
-          s ∙ rw (n, memory, good_sorted b k (drop (length k) list) w.good (length spare) (omega (arith, w.few_entries))) in
-          ap (λ m. take m sortedList) (sym (arranged_length (entry_before b) k)) ∙ rw is (take-append_seam (arranged_in dict k) (drop (length k) after))
+module _ {query dict after : List ℕ} where
+  pub tells_found : (order : List ℕ → List ℕ → List ℕ) {l w : ℕ} (r : Leaves query dict after l w) (last : List ℕ)
+      → take (length r.entries) last ≡ order dict r.entries → found_text l (take w last) ≡ told_in order query dict
+  unfolding result_text
+  tells_found order r last e = rw (r.found, r.lines, r.many, e)
+
+module _ {query dict list after : List ℕ} where
+  pub tells_refusal : (order : List ℕ → List ℕ → List ℕ) (e : Refusal)
+      → Finds query dict list (record { number = number_of e; place = place_of e; lines = 0; written = 0 }) after
+      → refusal_text (number_of e) (place_of e) ≡ told_in order query dict
+  unfolding result_text
+  tells_refusal order e f = go (found_within query dict) f.answer
+    where
+      go : (x : Result (List ℕ)) → record { number = number_of e; place = place_of e; lines = 0; written = 0 } ≡ searched_as (length (lines dict)) x
+          → refusal_text (number_of e) (place_of e) ≡ result_text (length (lines dict)) (on_done (order dict) x)
+      go (refusal number place) p = λ i. refusal_text (p i).number (p i).place
+      go (done entries) p = absurd (counted e (ap (λ r. r.number) p))
+
+-- what is found, as it is and in dictionary order
+pub as_found : (query dict : List ℕ) → told_in (λ dict entries. entries) query dict ≡ search_text query dict
+unfolding search_text
+as_found query dict = go (found_within query dict)
+  where
+    go : (x : Result (List ℕ)) → result_text (length (lines dict)) (on_done (λ k. k) x) ≡ result_text (length (lines dict)) x
+    go (refusal number place) = refl
+    go (done entries) = refl
+
+pub as_sorted : (query dict : List ℕ) → told_in arranged_in query dict ≡ sorted_text query dict
+unfolding sorted_text
+as_sorted query dict = refl
+
+pub sorts : (dict list spare after : List ℕ) (n : ℕ) → length spare ≡ 1024 → after ≡ list_after list n (sorted Fsw dict list n spare)
+    → (entries : List ℕ) → n ≡ length entries → Filled dict list entries → take (length entries) after ≡ arranged_in dict entries
+unfolding sorted
+sorts dict list spare after n m s entries e f =
+    let b = book_of (Fsw, dict) in
+    let w = was_found f.query dict entries f.found in
+    let tail = drop (length entries) list in
+    let whole : list ≡ entries ++ tail = sym (take-append-drop (length entries) list) ∙ ap (λ k. k ++ tail) f.front in
+    let sorts : sorted_in b list (length entries) (length spare) ≡ done (arranged_in dict entries) =
+    ap (λ l. sorted_in b l (length entries) (length spare)) whole ∙ good_sorted b entries tail w.good (length spare) (omega (arith, w.few_entries)) in
+    let is : after ≡ arranged_in dict entries ++ tail = s ∙ ap (λ n. list_after list n (sorted_in b list n (length spare))) e ∙ ap (list_after list (length entries)) sorts in
+    ap (λ m. take m after) (sym (arranged_length (entry_before b) entries)) ∙ rw is (take-append_seam (arranged_in dict entries) tail)

@@ -11,7 +11,7 @@ use lib.Seq.{take_all, length-take-le}
 use Rattle.format.specs.Format.{choose}
 use Rattle.lines.specs.Lines.{first_line}
 use Rattle.token.specs.Wrote.{Wrote}
-use Rattle.writer.proofs.Writes.{wrote_as, wrote_all}
+use Rattle.writer.proofs.Writes.{wrote_all}
 use Rattle.report.specs.Report.{query_in, dictionary_in, Part}
 
 query_part : (x : List ℕ) → (length (first_line x) ≤ length x) × (take (length (first_line x)) x ≡ first_line x)
@@ -48,14 +48,9 @@ module _ (x : List ℕ) (e : ℕ) (h : e ≡ 0 + length (first_line x)) where
     dictionary = to_end x e ∙ drop_of_length-le x l ∙ sym (drop_of_length-le x {i = suc (length (first_line x))} (omega arith));
   }
 
--- a text of the two, once it is written
-module _ (text : List ℕ → List ℕ → List ℕ) (x : List ℕ) where
-  abbrev whole : List ℕ
-  whole = text (query_in x) (dictionary_in x)
-
-  pub answered : {q d o p : List ℕ} {r : ℕ} → q ≡ query_in x → d ≡ dictionary_in x → Wrote o p 0 r (text q d)
-      → record { room : Part r p; answer : r ≡ length whole; memory : p ≡ whole ++ drop (length whole) o }
-  answered {p = p} {r} e f w =
-      let room : r ≤ length p = omega arith in
-      let all = wrote_all (wrote_as w (λ i. text (e i) (f i))) in
-      record { room = (room, sym (length-take-le r p room)); answer = all.0; memory = all.1 }
+-- a text, once it is written
+pub answered : {text o p : List ℕ} {r : ℕ} → Wrote o p 0 r text → record { room : Part r p; answer : r ≡ length text; memory : p ≡ text ++ drop (length text) o }
+answered {p = p} {r} w =
+    let room : r ≤ length p = omega arith in
+    let all = wrote_all w in
+    record { room = (room, sym (length-take-le r p room)); answer = all.0; memory = all.1 }

@@ -5,24 +5,24 @@ use mathlib.Core.List.{List, [], ◌∷◌, map}
 use native.Mathlib.Omega.{arith}
 use native.Mathlib.Numerals.{add-one}
 use native.Mathlib.Nat.{zero-add}
-use borrow.Author.Tests.{eq-eqb, ne_eqb}
+use borrow.Author.Tests.{ne_eqb}
 use lib.ListN.{length, get_or, take, drop, drop_of_length-le}
 use lib.Seq.{drop-cons}
 use Rattle.lines.specs.Lines.{lines, first_line, line_of, line_start}
 use Rattle.lines.proofs.Starts.{Line, start_first, line_at}
-use Rattle.querygrammar.specs.declared.Edition.{Edition}
 use Rattle.query.specs.Reading.{Asked}
-use Rattle.narrowing.specs.declared.Narrowed.{Narrowed}
+use Rattle.std.specs.Prelude.{Err}
+use Rattle.token.specs.declared.refusal.Refusal.{Refusal}
+use Rattle.token.specs.Refusal.{number_of}
+use Rattle.token.proofs.Refusals.{counted}
+use Rattle.narrowing.specs.Narrowing.{Narrowed, as_narrowed}
 use Rattle.narrowing.specs.Run.{Ended, next_count, answering, run, total}
 use Rattle.runs.specs.Runs.{asking, ended_as}
 
-pub next_kept : (n : ℕ) (answer : Narrowed) → answer.number ≡ 0 → answer.kept ≡ next_count n answer
+-- a refused call leaves the count as it was
+pub next_refused : (n : ℕ) (e : Refusal) → next_count n (as_narrowed (Err e)) ≡ n
 unfolding next_count
-next_kept n answer z = rw (eq-eqb answer.number 0 z)
-
-pub next_same : (n : ℕ) (answer : Narrowed) → (answer.number ≡ 0 → ⊥) → n ≡ next_count n answer
-unfolding next_count
-next_same n answer z = rw (ne_eqb answer.number 0 z)
+next_refused n e = rw (ne_eqb (number_of e) 0 (counted e))
 
 -- after `made` calls the rest of the run ends as the whole does
 pub record Running (call : List ℕ → ℕ → Asked → Narrowed × List ℕ) (queries : List ℕ) (whole : Ended) (list : List ℕ) (kept dropped start made : ℕ) : Type 0 where
@@ -59,9 +59,7 @@ module _ {call : List ℕ → ℕ → Asked → Narrowed × List ℕ} {queries :
     running_line end e = line_at queries (made + 1) start (omega arith) (omega arith) r.here end e
 
     module _ {end : ℕ} (l : Line queries (made + 1) start end) (answer : Narrowed) (after : List ℕ)
-        {edition : Edition} {query : List ℕ} (e : edition ≡ (asking (take (end - start) (drop start queries))).0)
-        (q : query ≡ (asking (take (end - start) (drop start queries))).1)
-        (c : (answer, after) ≡ call list kept (edition, query)) where
+        {asked : Asked} (q : asked ≡ asking (take (end - start) (drop start queries))) (c : (answer, after) ≡ call list kept asked) where
       abbrev later : Ended
       later = run call (map asking (drop (made + 1) (lines queries))) after (next_count kept answer)
 
@@ -69,7 +67,7 @@ module _ {call : List ℕ → ℕ → Asked → Narrowed × List ℕ} {queries :
       unfolding line_of
       one =
           let s : made + 1 - 1 ≡ made = omega arith in
-          c ∙ (λ i. call list kept (e i, q i)) ∙ ap (λ line. call list kept (asking line)) (l.part ∙ ap (λ i. get_or (lines queries) i []) s)
+          c ∙ ap (call list kept) q ∙ ap (λ line. call list kept (asking line)) (l.part ∙ ap (λ i. get_or (lines queries) i []) s)
 
       turn : run call (map asking (drop made (lines queries))) list kept ≡ answering answer later
       unfolding run
@@ -85,13 +83,12 @@ module _ {call : List ℕ → ℕ → Asked → Narrowed × List ℕ} {queries :
       pub running-dropped : dropped + answer.dropped ≤ total whole.answers
       running-dropped = omega (arith, r.sum, sums)
 
-      pub running_more : (next : ℕ) → next ≡ next_count kept answer → Running call queries whole after next (dropped + answer.dropped) (end + 1) (made + 1)
-      running_more next e =
-          rw e
-          (record {
+      pub running_more : Running call queries whole after (next_count kept answer) (dropped + answer.dropped) (end + 1) (made + 1)
+      running_more =
+          record {
             most = omega arith;
             here = l.next;
             memory = sym (ap (λ x. x.list) turn) ∙ r.memory;
             count = sym (ap (λ x. x.count) turn) ∙ r.count;
             sum = omega (arith, r.sum, sums);
-          })
+          }

@@ -10,15 +10,13 @@ use Rattle.charset.specs.declared.Charset.{Charset}
 use Rattle.token.specs.Result.{Result, refusal, done, in_room, left_as, output}
 use Rattle.lines.specs.Lines.{lines, ended}
 use Rattle.query.specs.Reading.{Asked}
-use Rattle.narrowing.specs.declared.Narrowed.{Narrowed}
-use Rattle.narrowing.specs.Narrowing.{not_narrowed}
+use Rattle.narrowing.specs.Narrowing.{Narrowed, not_narrowed}
 use Rattle.narrowing.specs.Run.{Ended, run, total}
 use Rattle.narrowing.specs.Form.{asks}
 use Rattle.format.proofs.Keeping.{keep_length}
 use Rattle.narrowing.proofs.Rising.{up_to_length}
 use Rattle.entries.specs.Entries.{entries_of}
-use Rattle.searching.specs.declared.Searched.{Searched}
-use Rattle.searching.specs.Searching.{searched_as}
+use Rattle.searching.specs.Searching.{Searched, searched_as}
 use Rattle.dictionary.specs.Search.{found, searched}
 use Rattle.dictionary.specs.Narrowing.{test_of, narrowed}
 use Rattle.dictionary.proofs.Searches.{searched_from}

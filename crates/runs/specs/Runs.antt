@@ -9,8 +9,7 @@ use Rattle.token.specs.Result.{Result, refusal, done, in_room}
 use Rattle.querygrammar.specs.declared.Edition.TheVariants.{First, Second}
 use Rattle.query.specs.Reading.{Asked}
 use Rattle.lines.specs.Lines.{lines, ended}
-use Rattle.narrowing.specs.declared.Narrowed.{Narrowed}
-use Rattle.narrowing.specs.Narrowing.{not_narrowed, filled}
+use Rattle.narrowing.specs.Narrowing.{Narrowed, not_narrowed, filled}
 use Rattle.narrowing.specs.Run.{Ended, total}
 use Rattle.dictionary.specs.Search.{found}
 use Rattle.runs.specs.Demand3.{meeting}

@@ -1,8 +1,9 @@
 // A whole run of narrowing calls as one function, so that demand 3 can be read on code that runs.
 #![tactic(auto)]
 
-ghost use Rattle.std.specs.Prelude.{◌≡◌, map, ◌≤◌};
+ghost use Rattle.std.specs.Prelude.{◌≡◌, ◌+◌, ◌≤◌, Ok, map};
 ghost use Rattle.lines.specs.Lines.{lines};
+ghost use Rattle.narrowing.specs.Narrowing.{as_narrowed};
 ghost use Rattle.narrowing.specs.Run.{next_count, run, total};
 ghost use Rattle.dictionary.specs.Narrowing.{narrowed};
 ghost use Rattle.runs.specs.Runs.{asking, ended_as, ran_on};
@@ -10,72 +11,57 @@ ghost use Rattle.runs.specs.Runs.{asking, ended_as, ran_on};
 use charset::Charset;
 use dictionary::{narrow, search};
 use lines::walk::{count, is_ended, line_end};
-use narrowing::{Narrowed, not_narrowed};
+use narrowing::Narrowed;
 use querygrammar::Edition;
-use token::refusal::{DONE, TEXT_SHORT};
+use token::refusal::Refusal;
 
-// The n of the next call: the k of this one if it was accepted.
-fn next_count(n: usize, answer: Narrowed) -> usize
-    ensures { result ≡ next_count n answer }
+// The query of a line, as the part of it where it lies, and its edition, which the line's first byte names.
+fn asked(line: &[u8]) -> (Edition, &[u8])
+    ensures { (result.0, result.1.now) ≡ asking line.now }
 {
-    let number = answer.number;
-    if number == DONE {
-        return answer.kept;
-    }
-    n
-}
-
-// The edition of a line's query: its first byte names it.
-fn edition_of(line: &[u8]) -> Edition
-    ensures { result ≡ (asking line.now).0 }
-{
-    if line.len() == 0 {
-        return Edition::First;
-    }
-    match line[0] {
-        b'F' => Edition::Second(Charset::Fsw),
-        b'S' => Edition::Second(Charset::Swu),
-        _ => Edition::First,
+    match line {
+        [] => (Edition::First, line),
+        [b'F', query @ ..] => (Edition::Second(Charset::Fsw), query),
+        [b'S', query @ ..] => (Edition::Second(Charset::Swu), query),
+        _ => (Edition::First, line),
     }
 }
 
-// The query of a line, as the part of it where it lies.
-fn query_of(line: &[u8]) -> &[u8]
-    ensures { result.now ≡ (asking line.now).1 }
+// What a run has come to after one more call. The next call takes the count of the last one that was accepted.
+fn after_call(left: Narrowed, call: Result<Narrowed, Refusal>) -> Narrowed
+    requires { left.dropped + (as_narrowed call).dropped ≤ 65535 }
+    ensures { result ≡ record { kept = next_count left.kept (as_narrowed call); dropped = left.dropped + (as_narrowed call).dropped } }
 {
-    match edition_of(line) {
-        Edition::First => line,
-        Edition::Second(_) => &line[1..],
+    match call {
+        Ok(accepted) => {
+            let dropped = left.dropped + accepted.dropped;
+            Narrowed {
+                kept: accepted.kept,
+                dropped,
+            }
+        }
+        Err(_) => left,
     }
 }
 
 // Narrows by the query of each line in order.
 fn narrow_each(set: Charset, dict: &[u8], list: &mut [u16], n: usize, queries: &[u8]) -> Narrowed
     requires { total (run (narrowed set dict.now) (map asking (lines queries.now)) list.old n).answers ≤ 65535 }
-    ensures { (result, list.new) ≡ ended_as (run (narrowed set dict.now) (map asking (lines queries.now)) list.old n) }
+    ensures { (as_narrowed (Ok result), list.new) ≡ ended_as (run (narrowed set dict.now) (map asking (lines queries.now)) list.old n) }
 {
-    let calls = count(queries);
-    let mut kept = n;
-    let mut dropped: usize = 0;
-    let mut start: usize = 0;
-    let mut made: usize = 0;
-    while made < calls {
+    let mut left = Narrowed {
+        kept: n,
+        dropped: 0,
+    };
+    let mut start = 0;
+    for _ in 0..count(queries) {
         let end = line_end(queries, start);
         let line = &queries[start..end];
-        let edition = edition_of(line);
-        let answer = narrow(set, dict, list, kept, edition, query_of(line));
-        let lost = answer.dropped;
-        dropped += lost;
-        kept = next_count(kept, answer);
+        let (edition, query) = asked(line);
+        left = after_call(left, narrow(set, dict, list, left.kept, edition, query));
         start = end + 1;
-        made += 1;
     }
-    Narrowed {
-        number: DONE,
-        place: 0,
-        kept: kept,
-        dropped: dropped,
-    }
+    left
 }
 
 // Searches a dictionary by a query and narrows by the query of each line in order: of the second edition in FSW or in SWU after F or
@@ -88,18 +74,12 @@ pub fn run_queries(
     edition: Edition,
     query: &[u8],
     queries: &[u8],
-) -> Narrowed
-    ensures { (result, list.new) ≡ ran_on set dict.now list.old (edition, query.now) queries.now }
+) -> Result<Narrowed, Refusal>
+    ensures { (as_narrowed result, list.new) ≡ ran_on set dict.now list.old (edition, query.now) queries.now }
 {
     if !is_ended(queries) {
-        return not_narrowed(TEXT_SHORT, queries.len());
+        return Err(Refusal::TextShort(queries.len()));
     }
-    let found = search(set, dict, list, edition, query);
-    let number = found.number;
-    let place = found.place;
-    let written = found.written;
-    if number != DONE {
-        return not_narrowed(number, place);
-    }
-    narrow_each(set, dict, list, written, queries)
+    let found = search(set, dict, list, edition, query)?;
+    Ok(narrow_each(set, dict, list, found.written, queries))
 }

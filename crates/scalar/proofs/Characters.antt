@@ -2,14 +2,15 @@
 use Prim.Native.Nat.{ℕ, ◌+◌, ◌-◌, ◌*◌, ◌/◌, ◌%◌, ◌≤◌, min}
 use mathlib.Core.List.{List, [], ◌∷◌}
 use mathlib.Core.Path.{◌≡◌, refl, sym, ap, ◌∙◌}
+use lib.ListN.{length}
 use native.Mathlib.Omega.{arith}
 use Rattle.format.specs.Format.{Format, sequence, mapped}
 use Rattle.format.specs.Numeral.{Range}
 use Rattle.format.specs.Located.{Located, found, wrong_at, short_here, locate, on_found}
 use Rattle.format.proofs.Delimited.{Delimited}
 use Rattle.format.proofs.At.{mapped_at}
-use Rattle.token.specs.declared.reading.Token.{Token}
-use Rattle.token.specs.declared.reading.Token.TheVariants.{Value}
+use Rattle.std.specs.Prelude.{Result as Answer, Ok}
+use Rattle.token.specs.declared.refusal.Refusal.{Refusal}
 use Rattle.token.specs.Token.{told, token_at}
 use Rattle.token.proofs.Told.{Fails, Told, first_fails, second_fails, both_told, second_told}
 use Rattle.token.proofs.Digits.{OneByte, numeral_told}
@@ -54,7 +55,7 @@ module _ (from lo hi d : ℕ) (x : (from + lo) / 262144 ≡ d) (y : (from + hi) 
   scalar_is : token_at (whole d d) s at ≡ token_at (scalar from lo hi) s at
   unfolding token_at
   scalar_is =
-      ap told
+      ap (told (length s))
       ((λ i. locate (whole (sym x i) (sym y i)) s at)
       ∙ sym (maps_at (sequence (shifted 0xf0 7 ((from + lo) / 262144) ((from + hi) / 262144)) others) (λ q. q.0 * 262144 + q.1) (λ n. (n / 262144, n % 262144)) (Range (from + lo) (from + hi))
       (λ c. c - from) (λ n. from + n) (Range lo hi) s at))
@@ -62,12 +63,12 @@ module _ (from lo hi d : ℕ) (x : (from + lo) / 262144 ≡ d) (y : (from + hi) 
   delimited : Delimited 1 lead
   delimited = (shifted_strict 0xf0 7 d d (omega arith) k).delimited
 
-  pub lead_fails : (r : Token) → r ≡ token_at lead s at → Fails r → r ≡ token_at (scalar from lo hi) s at
+  pub lead_fails : (r : Answer ℕ Refusal) → r ≡ token_at lead s at → Fails r → r ≡ token_at (scalar from lo hi) s at
   lead_fails r e h = first_fails 1 1 lead others to of (Range lo hi) delimited s at r e h ∙ scalar_is
 
   -- where the first byte is told, and r of the others
-  module _ (a : ℕ) (t : Token) (e : t ≡ token_at lead s at) (v : t ≡ Value a) (l h : ℕ) (p : l ≡ from + lo - d * 262144) (q : h ≡ min 262143 (from + hi - d * 262144))
-      (r : Token) (z : r ≡ token_at (trails (4096 ∷ 64 ∷ []) l h) s (at + 1)) where
+  module _ (a : ℕ) (t : Answer ℕ Refusal) (e : t ≡ token_at lead s at) (v : t ≡ Ok a) (l h : ℕ) (p : l ≡ from + lo - d * 262144) (q : h ≡ min 262143 (from + hi - d * 262144))
+      (r : Answer ℕ Refusal) (z : r ≡ token_at (trails (4096 ∷ 64 ∷ []) l h) s (at + 1)) where
     lead-told : Told 1 lead s at d
     lead-told =
         let f : Told 1 lead s at a = numeral_told (shifted_byte 0xf0 7) [] d d (omega arith) k s at a (sym e ∙ v) in
@@ -80,7 +81,7 @@ module _ (from lo hi d : ℕ) (x : (from + lo) / 262144 ≡ d) (y : (from + hi) 
     pub others_fail : Fails r → r ≡ token_at (scalar from lo hi) s at
     others_fail f = second_fails 1 1 lead others to of (Range lo hi) delimited s at d r lead-told others-told f ∙ scalar_is
 
-    pub others_say : (b : ℕ) → r ≡ Value b → Value (d * 262144 + b - from) ≡ token_at (scalar from lo hi) s at
+    pub others_say : (b : ℕ) → r ≡ Ok b → Ok (d * 262144 + b - from) ≡ token_at (scalar from lo hi) s at
     others_say b w = both_told 1 1 lead others to of (Range lo hi) delimited s at d b lead-told (sym others-told ∙ w) ∙ scalar_is
 
     -- where they say the value

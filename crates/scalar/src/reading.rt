@@ -1,12 +1,12 @@
 // Reading one character of a query in SWU byte by byte, so that the place of what is wrong is known to the byte.
-ghost use Rattle.std.specs.Prelude.{◌≡◌, [], ◌∷◌, ◌+◌, ◌^◌, ◌≤◌};
-ghost use Rattle.format.specs.Numeral.{Weights};
+ghost use Rattle.std.specs.Prelude.{◌≡◌, ◌+◌, ◌^◌, ◌≤◌};
 ghost use Rattle.token.specs.Token.{token_at};
-ghost use Rattle.querygrammar.specs.Scalar.{distance as distance_of, shifted, scalar};
+ghost use Rattle.querygrammar.specs.Scalar.{distance as distance_of, scalar};
 ghost use Rattle.querygrammar.specs.Spelling.{query_number};
-ghost use Rattle.scalar.specs.Trails.{trail, trails};
+ghost use Rattle.querygrammar.proofs.Scalars.{shifted_strict};
 
-use token::reading::{Token, least, less};
+use token::numerals::{Digit, digit_at, three_at, two_at};
+use token::refusal::Refusal;
 
 // A byte as its distance from another, and top + 1 for a byte before that.
 fn distance(b: u8, from: u8, top: u16) -> u16
@@ -16,96 +16,61 @@ fn distance(b: u8, from: u8, top: u16) -> u16
     if b < from {
         return top + 1;
     }
-    (b - from) as u16
+    u16::from(b - from)
 }
 
-// One byte of lo to hi, as its distance.
-fn shifted_at(s: &[u8], at: usize, from: u8, top: u16, lo: u16, hi: u16) -> Token
-    requires { top ≤ 63 }
-    ensures { result ≡ token_at (shifted from top lo hi) s.now at }
-{
-    if s.len() <= at {
-        return Token::Short;
+// The first byte of a character: F0 to F7 are 0 to 7.
+#[derive(Clone, Copy)]
+pub struct Lead;
+
+impl Digit for Lead {
+    ghost top = { 7 };
+
+    ghost value = { distance_of 0xf0 7 };
+
+    ghost byte = { λ d. 0xf0 + d };
+
+    fn value_of(b: u8) -> u16 {
+        distance(b, 0xf0, 7)
     }
-    let d = distance(s[at], from, top);
-    if d < lo {
-        return Token::Wrong(at);
+
+    ghost strict = { shifted_strict 0xf0 7 };
+}
+
+// A byte after the first: 80 to BF are 0 to 63.
+#[derive(Clone, Copy)]
+pub struct Trail;
+
+impl Digit for Trail {
+    ghost top = { 63 };
+
+    ghost value = { distance_of 0x80 63 };
+
+    ghost byte = { λ d. 0x80 + d };
+
+    fn value_of(b: u8) -> u16 {
+        distance(b, 0x80, 63)
     }
-    if hi < d {
-        return Token::Wrong(at);
-    }
-    Token::Value(d)
-}
 
-// One byte after the first: 80 to BF are 0 to 63.
-fn trail_at(s: &[u8], at: usize, lo: u16, hi: u16) -> Token
-    ensures { result ≡ token_at (trail lo hi) s.now at }
-{
-    shifted_at(s, at, 0x80, 63, lo, hi)
-}
-
-// Two bytes that say a number of lo to hi, the first with the weight p.
-fn two_at(s: &[u8], at: usize, p: u16, lo: u16, hi: u16) -> Token
-    requires { (at + 8 ≤ 2 ^ 64) × (lo ≤ hi) × Weights 63 63 hi (p ∷ []) }
-    ensures { result ≡ token_at (trails (p ∷ []) lo hi) s.now at }
-{
-    let first = trail_at(s, at, lo / p, hi / p);
-    let Token::Value(a) = first else {
-        return first;
-    };
-    let from = a * p;
-    let next = trail_at(s, at + 1, less(lo, from), least(p - 1, less(hi, from)));
-    let Token::Value(b) = next else {
-        return next;
-    };
-    Token::Value(from + b)
-}
-
-// Three bytes that say a number of lo to hi, the first two with the weights p and q.
-fn three_at(s: &[u8], at: usize, p: u16, q: u16, lo: u16, hi: u16) -> Token
-    requires { (at + 16 ≤ 2 ^ 64) × (lo ≤ hi) × Weights 63 63 hi (p ∷ q ∷ []) }
-    ensures { result ≡ token_at (trails (p ∷ q ∷ []) lo hi) s.now at }
-{
-    let first = trail_at(s, at, lo / p, hi / p);
-    let Token::Value(a) = first else {
-        return first;
-    };
-    let from = a * p;
-    let next = two_at(s, at + 1, q, less(lo, from), least(p - 1, less(hi, from)));
-    let Token::Value(b) = next else {
-        return next;
-    };
-    Token::Value(from + b)
+    ghost strict = { shifted_strict 0x80 63 };
 }
 
 // A symbol's character, as its code from first, which is 0 (null) or 1, to the last, 62592: F1, and three bytes that say it.
-pub fn symbol_at(s: &[u8], at: usize, first: u16) -> Token
+pub fn symbol_at(s: &[u8], at: usize, first: u16) -> Result<u16, Refusal>
     requires { (at + 32 ≤ 2 ^ 64) × (first ≤ 1) }
     ensures { result ≡ token_at (scalar 0x40000 first 62592) s.now at }
 {
-    let lead = shifted_at(s, at, 0xf0, 7, 1, 1);
-    let Token::Value(_) = lead else {
-        return lead;
-    };
-    three_at(s, at + 1, 4096, 64, first, 62592)
+    digit_at::<Lead>(s, at, 1, 1)?;
+    three_at::<Trail>(s, at + 1, 4096, 64, first, 62592)
 }
 
 // A number's character: F0 9D, and two bytes that say 2060 to 2559, which are 250 to 749.
-pub fn number_at(s: &[u8], at: usize) -> Token
+pub fn number_at(s: &[u8], at: usize) -> Result<u16, Refusal>
     requires { at + 32 ≤ 2 ^ 64 }
     ensures { result ≡ token_at query_number s.now at }
 {
-    let lead = shifted_at(s, at, 0xf0, 7, 0, 0);
-    let Token::Value(_) = lead else {
-        return lead;
-    };
-    let next = trail_at(s, at + 1, 29, 29);
-    let Token::Value(_) = next else {
-        return next;
-    };
-    let rest = two_at(s, at + 2, 64, 2060, 2559);
-    let Token::Value(n) = rest else {
-        return rest;
-    };
-    Token::Value(n - 1810)
+    digit_at::<Lead>(s, at, 0, 0)?;
+    digit_at::<Trail>(s, at + 1, 29, 29)?;
+    let n = two_at::<Trail>(s, at + 2, 64, 2060, 2559)?;
+    Ok(n - 1810)
 }

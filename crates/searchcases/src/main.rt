@@ -5,33 +5,26 @@
 // byte 10 for `~`. An empty line has the input searched, and the next one starts.
 #![tactic(auto)]
 
-ghost use Rattle.std.specs.Prelude.{◌≤◌, length};
+ghost use Rattle.std.specs.Prelude.{◌≤◌, length, IfOk};
 
 use lines::walk::{count, line};
-
-// The file descriptors of standard input and output.
-const STDIN_FILENO: i32 = 0;
-
-const STDOUT_FILENO: i32 = 1;
+use std::io;
+use std::io::Print;
 
 fn digit(b: u8) -> usize
     ensures { result ≤ 9 }
 {
-    if b < 48 {
-        return 0;
+    match b {
+        b'0'..=b'9' => usize::from(b - b'0'),
+        _ => 0,
     }
-    if 57 < b {
-        return 0;
-    }
-    (b - 48) as usize
 }
 
-// The four digits that a line starts with.
-fn times(row: &[u8]) -> usize
-    requires { 4 ≤ length row.now }
+// The number that four digits write.
+fn times(a: u8, b: u8, c: u8, d: u8) -> usize
     ensures { result ≤ 9999 }
 {
-    digit(row[0]) * 1000 + digit(row[1]) * 100 + digit(row[2]) * 10 + digit(row[3])
+    digit(a) * 1000 + digit(b) * 100 + digit(c) * 10 + digit(d)
 }
 
 // Adds a piece at an offset of the input if there is room, and returns where the input ends.
@@ -42,85 +35,83 @@ fn add(input: &mut [u8], at: usize, piece: &[u8]) -> usize
     if input.len() - at < piece.len() {
         return at;
     }
-    let mut i: usize = 0;
-    while i < piece.len() {
-        let mut byte = piece[i];
-        if byte == b'~' {
-            byte = 10;
+    let end = at + piece.len();
+    let room = &mut input[at..end];
+    room.copy_from_slice(piece);
+    for byte in room.iter_mut() {
+        if *byte == b'~' {
+            *byte = b'\n';
         }
-        input[at + i] = byte;
-        i += 1;
     }
-    at + i
+    end
 }
 
 fn add_times(input: &mut [u8], at: usize, piece: &[u8], n: usize) -> usize
     requires { at ≤ length input.old }
     ensures { result ≤ length input.new }
 {
-    let mut next = at;
-    let mut i: usize = 0;
-    while i < n {
-        next = add(input, next, piece);
-        i += 1;
+    let mut end = at;
+    for _ in 0..n {
+        end = add(input, end, piece);
     }
-    next
+    end
 }
 
 // Of a long text the first 40 bytes and the last line, which has 11.
-fn show(text: &[u8]) {
+fn show(rt: &impl Print, text: &[u8]) -> io::Result<()> {
     if text.len() <= 40 {
-        io::write_all(STDOUT_FILENO, text);
-        return;
+        return rt.write_all(text);
     }
-    io::write_all(STDOUT_FILENO, &text[0..40]);
-    io::write_all(STDOUT_FILENO, b"..\n");
-    io::write_all(STDOUT_FILENO, &text[text.len() - 11..]);
+    rt.write_all(&text[0..40])?;
+    rt.write_all(b"..\n")?;
+    rt.write_all(&text[text.len() - 11..])
 }
 
-fn search(input: &[u8]) {
+fn search(rt: &impl Print, input: &[u8]) -> io::Result<()> {
     let mut out = [0u8; 12320];
     let n = report::report(input, &mut out);
-    show(&out[..n]);
+    show(rt, &out[..n])
 }
 
-fn title(row: &[u8]) {
-    io::write_all(STDOUT_FILENO, row);
-    io::write_all(STDOUT_FILENO, b"\n");
+fn title(rt: &impl Print, row: &[u8]) -> io::Result<()> {
+    rt.write_all(row)?;
+    rt.write_all(b"\n")
 }
 
 // One line of the sheet; returns where the input ends.
-fn follow(row: &[u8], input: &mut [u8], at: usize) -> usize
+fn follow(rt: &impl Print, row: &[u8], input: &mut [u8], at: usize) -> io::Result<usize>
     requires { at ≤ length input.old }
-    ensures { result ≤ length input.new }
+    ensures { IfOk result (λ end. end ≤ length input.new) }
 {
-    if row.len() == 0 {
-        search(&input[0..at]);
-        return 0;
+    match row {
+        [] => {
+            search(rt, &input[..at])?;
+            Ok(0)
+        }
+        [b'-', ..] => {
+            title(rt, row)?;
+            Ok(at)
+        }
+        [a, b, c, d, _, piece @ ..] => Ok(add_times(input, at, piece, times(*a, *b, *c, *d))),
+        _ => Ok(at),
     }
-    if row[0] == b'-' {
-        title(row);
-        return at;
-    }
-    if row.len() < 5 {
-        return at;
-    }
-    add_times(input, at, &row[5..], times(row))
 }
 
-fn follow_all(sheet: &[u8]) {
+fn follow_all(rt: &impl Print, sheet: &[u8]) -> io::Result<()> {
     let mut input = [0u8; 50178];
-    let n = count(sheet);
-    let mut at: usize = 0;
-    let mut k: usize = 0;
-    while k < n {
-        at = follow(line(sheet, k + 1), &mut input, at);
-        k += 1;
+    let mut at = 0;
+    for k in 1..=count(sheet) {
+        at = follow(rt, line(sheet, k), &mut input, at)?;
     }
+    Ok(())
 }
 
-fn main() {
-    let mut sheet = io::buffer();
-    let n = io::read_full(STDIN_FILENO, &mut sheet);
-    follow_all(&sheet[..n]);
+// Where reading fails, what was read is followed; where writing fails, nothing more is written.
+fn main(rt: HostRuntime) {
+    let mut sheet = [0u8; 4096];
+    let n = match input::read_input(&mut rt.stdin(), &mut sheet) {
+        Ok(n) => n,
+        Err(cut) => cut.read,
+    };
+    let _ = follow_all(&rt, &sheet[..n]);
 }

@@ -1,5 +1,5 @@
 -- Searching by a query that lies in lent words (document 02, Q-10).
-use Rattle.std.specs.Prelude.{ℕ, List, Bool, length}
+use Rattle.std.specs.Prelude.{Result as Answer, Ok, Err, ℕ, List, Bool, length}
 use Rattle.format.specs.Format.{keep}
 use Rattle.charset.specs.declared.Charset.{Charset}
 use Rattle.token.specs.Result.{Result, refusal, done, in_room, output}
@@ -9,7 +9,21 @@ use Rattle.entries.specs.Entries.{readable}
 use Rattle.entries.specs.Judging.{meets_words}
 use Rattle.books.specs.Book.{book_of}
 use Rattle.books.specs.Fills.{found_in}
-use Rattle.searching.specs.declared.Searched.{Searched}
+use Rattle.token.specs.declared.refusal.Refusal.{Refusal}
+use Rattle.token.specs.Refusal.{number_of, place_of}
+use Rattle.searching.specs.declared.Searched.{Searched as Counts}
+
+-- What a call answers, as numbers: zeros but for number and place where it is refused.
+pub record Searched : Type 0 where
+  pub number : ℕ
+  pub place : ℕ
+  pub lines : ℕ
+  pub written : ℕ
+
+-- and by the function that makes it: both counts, or the refusal
+abbrev pub as_searched : Answer Counts Refusal → Searched
+as_searched (Ok counts) = record { number = 0; place = 0; lines = counts.lines; written = counts.written }
+as_searched (Err e) = record { number = number_of e; place = place_of e; lines = 0; written = 0 }
 
 abbrev pub not_searched : ℕ → ℕ → Searched
 not_searched number place = record { number = number; place = place; lines = 0; written = 0 }

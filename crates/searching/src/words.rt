@@ -1,91 +1,70 @@
-// Searching by a query that lies in lent words. Every line is read and judged before an entry is written, each once: a bit for each
-// entry, in memory of fixed size, keeps what was judged.
-ghost use Rattle.std.specs.Prelude.{◌≡◌, Bool, true, ◌≤◌, length};
-ghost use Rattle.lines.specs.Lines.{lines as lines_of};
-ghost use Rattle.matching.specs.Inner.{Laid};
+// Searching by the conditions of a query. Every line is read and judged before an entry is written, each once: a bit for each entry, in
+// memory of fixed size, keeps what was judged.
+ghost use Rattle.std.specs.Prelude.{◌≡◌, true, ◌≤◌};
 ghost use Rattle.entries.specs.Judging.{meets_words};
-ghost use Rattle.searching.specs.Searching.{writing, found_of, searched_words};
+ghost use Rattle.searching.specs.Searching.{writing, found_of, searched_words, as_searched};
 
-use crate::{Searched, not_searched};
+use crate::Searched;
 use charset::Charset;
+use entries::Counted;
 use entries::finding::{asks_nothing, find};
 use entries::reading::first_wrong;
 use lines::checked::count_lines;
 use list::bits::{ALL, BYTES, write_entries};
 use list::numbering::number_entries;
-use token::refusal::{DONE, LINE_WRONG, ROOM_SHORT};
+use matching::judging::Conditions;
+use token::refusal::Refusal;
 
-// Searches n lines by a query that every sign meets: no line is judged.
-fn search_all(set: Charset, dict: &[u8], list: &mut [u16], n: usize) -> Searched
-    requires { (n ≡ length (lines_of dict.now)) × (n ≤ 65535) }
-    ensures { (result, list.new) ≡ writing n list.old (found_of set dict.now n (λ e. true)) }
+// Searches by a query that every sign meets: no line is judged.
+fn search_all(book: Counted, list: &mut [u16]) -> Result<Searched, Refusal>
+    requires { book.lines ≤ 65535 }
+    ensures { (as_searched result, list.new) ≡ writing book.entry.lines list.old (found_of book.entry.set book.entry.dict.now book.entry.lines (λ e. true)) }
 {
-    let wrong = first_wrong(set, dict, n);
-    if wrong != 0 {
-        return not_searched(LINE_WRONG, wrong);
+    let n = book.lines;
+    if let Some(wrong) = first_wrong(book.set, book.dict, n) {
+        return Err(Refusal::LineWrong(wrong));
     }
     if list.len() < n {
-        return not_searched(ROOM_SHORT, n);
+        return Err(Refusal::RoomShort(n));
     }
     number_entries(list, n);
-    Searched {
-        number: DONE,
-        place: 0,
+    Ok(Searched {
         lines: n,
         written: n,
-    }
+    })
 }
 
-// Searches n lines by any query.
-fn search_met<'a>(
-    set: Charset,
-    dict: &'a [u8],
-    list: &'a mut [u16],
-    n: usize,
-    words: &'a [u16],
-) -> Searched
-    requires { (n ≡ length (lines_of dict.now)) × (n ≤ 65535) × Laid words.now }
-    ensures { (result, list.new) ≡ writing n list.old (found_of set dict.now n (meets_words set dict.now words.now)) }
+// Searches by any query.
+fn search_met(book: Counted, list: &mut [u16], conditions: Conditions) -> Result<Searched, Refusal>
+    requires { book.lines ≤ 65535 }
+    ensures { (as_searched result, list.new) ≡ writing book.entry.lines list.old (found_of book.entry.set book.entry.dict.now book.entry.lines (meets_words book.entry.set book.entry.dict.now conditions.entry.words.now)) }
 {
     let listed = [ALL; BYTES];
     let mut bits = [0u8; BYTES];
-    let found = find(set, dict, n, words, &listed, &mut bits);
-    let wrong = found.wrong;
-    let met = found.met;
-    if wrong != 0 {
-        return not_searched(LINE_WRONG, wrong);
-    }
+    let met = find(book, conditions, &listed, &mut bits)?;
     let short = list.len() < met;
     if short {
-        return not_searched(ROOM_SHORT, met);
+        return Err(Refusal::RoomShort(met));
     }
-    write_entries(list, &bits, n);
-    Searched {
-        number: DONE,
-        place: 0,
-        lines: n,
+    write_entries(list, &bits, book.lines);
+    Ok(Searched {
+        lines: book.lines,
         written: met,
-    }
+    })
 }
 
-pub fn search_by<'a>(
+pub fn search_by(
     set: Charset,
-    dict: &'a [u8],
-    list: &'a mut [u16],
-    words: &'a [u16],
-) -> Searched
-    requires { Laid words.now }
-    ensures { (result, list.new) ≡ searched_words set dict.now list.old words.now }
+    dict: &[u8],
+    list: &mut [u16],
+    conditions: Conditions,
+) -> Result<Searched, Refusal>
+    ensures { (as_searched result, list.new) ≡ searched_words set dict.now list.old conditions.entry.words.now }
 {
-    let counted = count_lines(dict);
-    let number = counted.number;
-    let n = counted.lines;
-    let refused = number != DONE;
-    if refused {
-        return not_searched(number, 0);
+    let lines = count_lines(dict)?;
+    let book = Counted { set, dict, lines };
+    if asks_nothing(conditions) {
+        return search_all(book, list);
     }
-    if asks_nothing(words) {
-        return search_all(set, dict, list, n);
-    }
-    search_met(set, dict, list, n, words)
+    search_met(book, list, conditions)
 }

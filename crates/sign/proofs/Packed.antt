@@ -10,6 +10,7 @@ use Rattle.token.proofs.Checks.{Counted}
 use Rattle.token.proofs.PaddedLists.{padded_at}
 use Rattle.writer.specs.Arrays.{upto, at, symbol_at, meaning_in}
 use Rattle.writer.proofs.Upto.{upto_is}
+use Rattle.reader.specs.Inner.{symbols_of}
 use Rattle.reader.specs.Signs.{sign_of}
 use Rattle.reader.proofs.Limits.{sign_limited, sign_counted}
 use Rattle.sign.specs.declared.Sign.{Sign}
@@ -48,15 +49,17 @@ part_at of z l n i h = padded_at 64 (map of l) i (omega arith) ∙ ap (get_or (m
 
 -- what a record means; its offsets say nothing of it
 abbrev pub meaning_of : Sign → Meaning
-meaning_of s = meaning_in s.marker s.max_x s.max_y s.prefix_count s.symbol_count s.prefix s.codes s.xs s.ys
+meaning_of s =
+    meaning_in (record { marker = s.marker; max_x = s.max_x; max_y = s.max_y; prefix_count = s.prefix_count; symbol_count = s.symbol_count })
+    (record { prefix = s.prefix; codes = s.codes; xs = s.xs; ys = s.ys })
 
 pub packed_means : (set : Charset) (m : Meaning) → Within m → meaning_of (packed set m) ≡ m
 packed_means set m w =
-    let s = packed set m in
+    let s = symbols_of m in
     let prefix : upto (at s.prefix) (length m.prefix) ≡ m.prefix =
     upto_is (at s.prefix) m.prefix 0 λ i h. padded_at 32 m.prefix i (let k = w.prefix in omega arith) in
-    let symbols : upto (symbol_at s.codes s.xs s.ys) (length m.symbols) ≡ m.symbols =
-    upto_is (symbol_at s.codes s.xs s.ys) m.symbols no_symbol λ i h r.
+    let symbols : upto (symbol_at s) (length m.symbols) ≡ m.symbols =
+    upto_is (symbol_at s) m.symbols no_symbol λ i h r.
     record {
       code = part_at (λ s. s.code) refl m.symbols w.symbols i h r;
       x = part_at (λ s. s.x) refl m.symbols w.symbols i h r;

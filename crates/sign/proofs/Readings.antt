@@ -6,12 +6,15 @@ use Rattle.grammar.specs.Offsets.{prefix_offsets, symbol_offsets}
 use Rattle.grammar.specs.Sign.{Spatial, Meaning}
 use Rattle.token.specs.Padded.{padded, zeros}
 use Rattle.token.proofs.PaddedLists.{padded_length, drop_padded}
-use Rattle.reader.specs.declared.arrays.Head.{Head}
-use Rattle.reader.specs.Inner.{ReadInto, head_of, HoldsSymbols}
-use Rattle.reader.proofs.Limits.{Known, not_read, was_read, known}
-use Rattle.sign.specs.declared.Sign.{Sign}
-use Rattle.sign.specs.declared.Reading.{Reading}
-use Rattle.sign.specs.Reading.{no_sign, reading_of, reading_in}
+use Rattle.std.specs.Prelude.{Result as Answer, Ok, Err}
+use Rattle.token.specs.declared.refusal.Refusal.{Refusal}
+use Rattle.token.specs.Result.{done}
+use Rattle.grammar.specs.declared.Head.{Head}
+use Rattle.grammar.specs.declared.Symbols.{Symbols}
+use Rattle.reader.specs.Inner.{ReadInto, head_of, symbols_of}
+use Rattle.reader.specs.Signs.{sign_of}
+use Rattle.reader.proofs.Counts.{was_refused, was_done}
+use Rattle.sign.specs.Reading.{as_reading, reading_of, reading_in}
 use Rattle.sign.specs.OffsetLaws.{with_offsets}
 use Rattle.sign.specs.Inner.{sign_in, Counting, Laid}
 use Rattle.sign.proofs.Packed.{sign_within}
@@ -25,51 +28,52 @@ counting k n l array h c e =
       rest = (λ i. drop (c i) (e i)) ∙ drop_padded k l h ∙ sym (λ i. zeros (size i - c i));
     }
 
--- the arrays of a sign that was read
-pub laid_there : (m : Meaning) (place : ℕ) (h : Head) (array codes xs ys : List ℕ) → length m.prefix ≤ 32 → length m.symbols ≤ 64
-    → h ≡ head_of m (length m.prefix) place → (array ≡ padded 32 m.prefix) × HoldsSymbols m.symbols codes xs ys → Laid h array codes xs ys
-laid_there m place h array codes xs ys p n k a =
+-- the symbols of a sign that was read
+pub laid_there : (m : Meaning) (h : Head) (symbols : Symbols) → length m.prefix ≤ 32 → length m.symbols ≤ 64 → h ≡ head_of m → symbols ≡ symbols_of m → Laid h symbols
+laid_there m h symbols p n k a =
     let few = ap (λ h. h.prefix_count) k in
     let count = ap (λ h. h.symbol_count) k in
-    let symbols : (of : Spatial → ℕ) (held : List ℕ) → held ≡ padded 64 (map of m.symbols) → Counting h.symbol_count held =
+    let part : (of : Spatial → ℕ) (held : List ℕ) → held ≡ padded 64 (map of m.symbols) → Counting h.symbol_count held =
     λ of held e. let same = length-map m.symbols of in counting 64 h.symbol_count (map of m.symbols) held (omega arith) (count ∙ sym same) e in
     record {
       counted = record { prefix = omega arith; symbols = omega arith };
-      prefix = counting 32 h.prefix_count m.prefix array p few a.0;
-      codes = symbols (λ s. s.code) codes a.1.0;
-      xs = symbols (λ s. s.x) xs a.1.1.0;
-      ys = symbols (λ s. s.y) ys a.1.1.1;
+      prefix = counting 32 h.prefix_count m.prefix symbols.prefix p few (ap (λ s. s.prefix) a);
+      codes = part (λ s. s.code) symbols.codes (ap (λ s. s.codes) a);
+      xs = part (λ s. s.x) symbols.xs (ap (λ s. s.xs) a);
+      ys = part (λ s. s.y) symbols.ys (ap (λ s. s.ys) a);
     }
 
-module _ (set : Charset) (s : List ℕ) (h : Head) (array codes xs ys : List ℕ) (v : ReadInto set s h array codes xs ys) where
-  pub laid : h.number ≡ 0 → Laid h array codes xs ys
-  laid z = go (known set s h array codes xs ys v)
-    where
-      go : Known set s h array codes xs ys → Laid h array codes xs ys
-      go (not_read q n) = absurd (omega arith)
-      go (was_read m q k a) = let w = sign_within set s m q in laid_there m 0 h array codes xs ys w.prefix w.symbols k a
+module _ (set : Charset) (s : List ℕ) (r : Answer Head Refusal) (symbols : Symbols) (v : ReadInto set s r symbols) where
+  -- a sign that was read
+  pub record Meant (h : Head) : Type 0 where
+    pub meaning : Meaning
+    pub says : sign_of set s ≡ done meaning
+    pub head : h ≡ head_of meaning
+    pub holds : symbols ≡ symbols_of meaning
 
-  pub reading_refused : (r : Reading) → (h.number ≡ 0 → ⊥) → r ≡ record { number = h.number; place = h.place; sign = no_sign } → r ≡ reading_in set s
+  pub meant : (h : Head) → r ≡ Ok h → Meant h
+  meant h q =
+      let d = was_done head_of (sign_of set s) r h v.is q in
+      record { meaning = d.0; says = d.1.0; head = sym d.1.1; holds = rw d.1.0 at v.holds }
+
+  pub laid : (h : Head) → r ≡ Ok h → Laid h symbols
+  laid h q =
+      let k = meant h q in
+      let w = sign_within set s k.meaning k.says in
+      laid_there k.meaning h symbols w.prefix w.symbols k.head k.holds
+
+  pub reading_refused : (e : Refusal) → r ≡ Err e → as_reading (Err e) ≡ reading_in set s
   unfolding reading_of
-  reading_refused r z e = go (known set s h array codes xs ys v)
-    where
-      go : Known set s h array codes xs ys → r ≡ reading_in set s
-      go (not_read q n) = e ∙ ap (reading_of set) (sym q)
-      go (was_read m q k a) = absurd (z (ap (λ k. k.number) k))
+  reading_refused e q = ap (reading_of set) (sym (was_refused head_of (sign_of set s) r e v.is q))
 
-  -- the sign that lies in the arrays
-  pub reading_done : h.number ≡ 0 → record { number = 0; place = 0; sign = sign_in set h array codes xs ys } ≡ reading_in set s
+  -- the sign that lies in memory
+  pub reading_done : (h : Head) → r ≡ Ok h → as_reading (Ok (sign_in set h symbols)) ≡ reading_in set s
   unfolding reading_of
-  reading_done z = go (known set s h array codes xs ys v)
-    where
-      go : Known set s h array codes xs ys → record { number = 0; place = 0; sign = sign_in set h array codes xs ys } ≡ reading_in set s
-      go (not_read q n) = absurd (omega arith)
-      go (was_read m q k a) =
-          (λ i. record { number = 0; place = 0; sign = sign_in set (k i) (a.0 i) (a.1.0 i) (a.1.1.0 i) (a.1.1.1 i) })
-          ∙ ap (reading_of set) (sym q)
+  reading_done h q =
+      let k = meant h q in
+      (λ i. as_reading (Ok (sign_in set (k.head i) (k.holds i)))) ∙ ap (reading_of set) (sym k.says)
 
--- a sign that lies in arrays, with offsets that were put beside them
-pub packed_with : (set : Charset) (h : Head) (array codes xs ys p n : List ℕ) → p ≡ padded 32 (prefix_offsets set h.prefix_count)
-    → n ≡ padded 64 (symbol_offsets set h.prefix_count h.symbol_count)
-    → ◌≡◌ {A = Reading} (record { number = 0; place = 0; sign = with_offsets p n (sign_in set h array codes xs ys) }) (record { number = 0; place = 0; sign = sign_in set h array codes xs ys })
-packed_with set h array codes xs ys p n e f i = record { number = 0; place = 0; sign = with_offsets (e i) (f i) (sign_in set h array codes xs ys) }
+-- a sign that lies in memory, with offsets that were put beside it
+pub packed_with : (set : Charset) (h : Head) (symbols : Symbols) (p n : List ℕ) → p ≡ padded 32 (prefix_offsets set h.prefix_count)
+    → n ≡ padded 64 (symbol_offsets set h.prefix_count h.symbol_count) → with_offsets p n (sign_in set h symbols) ≡ sign_in set h symbols
+packed_with set h symbols p n e f i = with_offsets (e i) (f i) (sign_in set h symbols)

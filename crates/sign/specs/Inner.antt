@@ -1,22 +1,23 @@
--- A sign that was read into arrays, and places for its offsets.
+-- A sign that was read into memory, and places for its offsets.
 use Rattle.std.specs.Prelude.{◌≡◌, ℕ, ◌+◌, ◌-◌, ◌≤◌, List, length, take, drop}
 use Rattle.charset.specs.declared.Charset.{Charset}
 use Rattle.grammar.specs.Offsets.{prefix_offsets, symbol_offsets}
 use Rattle.token.specs.Padded.{padded, zeros}
-use Rattle.reader.specs.declared.arrays.Head.{Head}
+use Rattle.grammar.specs.declared.Head.{Head}
+use Rattle.grammar.specs.declared.Symbols.{Symbols}
 use Rattle.sign.specs.declared.Sign.{Sign}
 
-abbrev pub sign_in : Charset → Head → List ℕ → List ℕ → List ℕ → List ℕ → Sign
-sign_in set h prefix codes xs ys = record {
+abbrev pub sign_in : Charset → Head → Symbols → Sign
+sign_in set h symbols = record {
   marker = h.marker;
   max_x = h.max_x;
   max_y = h.max_y;
   prefix_count = h.prefix_count;
   symbol_count = h.symbol_count;
-  prefix = prefix;
-  codes = codes;
-  xs = xs;
-  ys = ys;
+  prefix = symbols.prefix;
+  codes = symbols.codes;
+  xs = symbols.xs;
+  ys = symbols.ys;
   prefix_offsets = padded 32 (prefix_offsets set h.prefix_count);
   symbol_offsets = padded 64 (symbol_offsets set h.prefix_count h.symbol_count);
 }
@@ -36,10 +37,10 @@ pub record Counted (h : Head) : Type 0 where
   pub prefix : h.prefix_count ≤ 32
   pub symbols : h.symbol_count ≤ 64
 
--- the arrays of a sign, which hold as many numbers as its counts say
-pub record Laid (h : Head) (p c x y : List ℕ) : Type 0 where
+-- the symbols of a sign, as many as its counts say
+pub record Laid (h : Head) (symbols : Symbols) : Type 0 where
   pub counted : Counted h
-  pub prefix : Counting h.prefix_count p
-  pub codes : Counting h.symbol_count c
-  pub xs : Counting h.symbol_count x
-  pub ys : Counting h.symbol_count y
+  pub prefix : Counting h.prefix_count symbols.prefix
+  pub codes : Counting h.symbol_count symbols.codes
+  pub xs : Counting h.symbol_count symbols.xs
+  pub ys : Counting h.symbol_count symbols.ys

@@ -1,13 +1,20 @@
 -- What reading a sign answers: the record with its arrays, or zeros beside the refusal.
-use Rattle.std.specs.Prelude.{ℕ, List, map, length}
+use Rattle.std.specs.Prelude.{Result as Answer, Ok, Err, ℕ, List, map, length}
 use Rattle.charset.specs.declared.Charset.{Charset}
 use Rattle.grammar.specs.Sign.{Meaning}
 use Rattle.grammar.specs.Offsets.{prefix_offsets, symbol_offsets}
+use Rattle.token.specs.declared.refusal.Refusal.{Refusal}
+use Rattle.token.specs.Refusal.{number_of, place_of}
 use Rattle.token.specs.Result.{Result, refusal, done}
 use Rattle.token.specs.Padded.{padded, zeros}
 use Rattle.reader.specs.Signs.{sign_of}
 use Rattle.sign.specs.declared.Sign.{Sign}
-use Rattle.sign.specs.declared.Reading.{Reading}
+
+-- what a reading answers, as numbers: the sign, and zeros where it is refused
+pub record Reading : Type 0 where
+  pub number : ℕ
+  pub place : ℕ
+  pub sign : Sign
 
 -- a sign read in a character set: what it means, and where its symbols stand in the text
 abbrev pub packed : Charset → Meaning → Sign
@@ -43,6 +50,11 @@ no_sign = record {
 unfoldable pub reading_of : Charset → Result Meaning → Reading
 reading_of set (refusal number place) = record { number = number; place = place; sign = no_sign }
 reading_of set (done m) = record { number = 0; place = 0; sign = packed set m }
+
+-- and by the function that reads it
+abbrev pub as_reading : Answer Sign Refusal → Reading
+as_reading (Ok sign) = record { number = 0; place = 0; sign = sign }
+as_reading (Err e) = record { number = number_of e; place = place_of e; sign = no_sign }
 
 -- what reading a text answers
 abbrev pub reading_in : Charset → List ℕ → Reading

@@ -7,8 +7,7 @@ use Rattle.charset.specs.declared.Charset.TheVariants.{Fsw, Swu}
 use Rattle.grammar.specs.Sign.{Meaning, Valid, sign, sign_text}
 use Rattle.grammar.specs.SignLaws.{SignNumber}
 use Rattle.token.specs.Refusal.{text_wrong, text_short, prefix_long, signbox_long}
-use Rattle.sign.specs.declared.Reading.{Reading}
-use Rattle.sign.specs.Reading.{packed, reading_in}
+use Rattle.sign.specs.Reading.{Reading, packed, reading_in}
 
 -- the answer has this number and this place
 abbrev pub Answers : Reading → ℕ → ℕ → Type 0

@@ -1,7 +1,6 @@
 // Copying numbers.
-ghost use Rattle.std.specs.Prelude.{◌≡◌, ◌+◌, ◌-◌, ◌≤◌, ◌++◌, length, take};
+ghost use Rattle.std.specs.Prelude.{◌≡◌, ◌+◌, ◌≤◌, length};
 ghost use Rattle.std.proofs.Math.Seq.{paste};
-ghost use Rattle.token.specs.Padded.{zeros};
 ghost use Rattle.sign.specs.Inner.{Cleared, Counting};
 
 // Copies numbers into an array from a place on.
@@ -9,23 +8,7 @@ pub fn put(to: &mut [u16], at: usize, from: &[u16])
     requires { at + length from.now ≤ length to.old }
     ensures { to.new ≡ paste to.old at from.now (length from.now) }
 {
-    let mut i: usize = 0;
-    while i < from.len() {
-        to[at + i] = from[i];
-        i += 1;
-    }
-}
-
-// Puts zeros from a place on.
-pub fn clear(to: &mut [u16], at: usize)
-    requires { at ≤ length to.old }
-    ensures { to.new ≡ take at to.old ++ zeros (length to.old - at) }
-{
-    let mut i = at;
-    while i < to.len() {
-        to[i] = 0;
-        i += 1;
-    }
+    to[at..at + from.len()].copy_from_slice(from);
 }
 
 // Copies an array that holds n numbers and then zeros into places that hold zeros. Mostly its first eight numbers are all; they go
@@ -35,9 +18,10 @@ pub fn put_counted(to: &mut [u16], at: usize, from: &[u16], n: usize)
     ensures { to.new ≡ paste to.old at from.now (length from.now) }
 {
     let mut eight = [0u16; 8];
-    put(&mut eight, 0, &from[0..8]);
-    put(to, at, &eight);
+    eight.copy_from_slice(&from[..8]);
+    let places = &mut to[at..at + from.len()];
+    places[..8].copy_from_slice(&eight);
     if 8 < n {
-        put(to, at + 8, &from[8..]);
+        places[8..].copy_from_slice(&from[8..]);
     }
 }

@@ -4,7 +4,7 @@ ghost use Rattle.std.specs.Prelude.{◌≡◌, ◌+◌, ◌*◌, ◌≤◌, leng
 ghost use Rattle.std.proofs.Math.Seq.{paste};
 ghost use Rattle.format.specs.Format.{choose};
 ghost use Rattle.grammar.specs.Offsets.{steps, prefix_offsets, symbol_offsets};
-ghost use Rattle.token.specs.Padded.{padded};
+ghost use Rattle.token.specs.Padded.{padded, zeros};
 ghost use Rattle.sign.specs.Inner.{Cleared};
 
 use charset::Charset;
@@ -15,31 +15,29 @@ fn step(first: u16, size: u16, n: u16, i: u16) -> u16
     requires { (n ≤ 64) × (i ≤ 64) × (first + 64 * size ≤ 65535) }
     ensures { result ≡ choose (nat_lt i n) (first + i * size) 0 }
 {
-    let used = std::num::wrapping_sub_u16(i, n) >> 15;
+    let used = i.wrapping_sub(n) >> 15;
     (first + i * size) * used
 }
 
-// Puts the offsets of n symbols into an array's places from `at` on, with zeros after them up to `room`: the first stands at an
-// offset, and each so many bytes after the one before.
-fn put_steps(to: &mut [u16], at: usize, room: usize, first: u16, size: u16, n: u16)
-    requires { (room ≤ 64) × (at + room ≤ length to.old) × (n ≤ 64) × (first + 64 * size ≤ 65535) }
-    ensures { to.new ≡ paste to.old at (padded room (steps first size n)) room }
+// Puts the offsets of n symbols into places, with zeros after them: the first stands at an offset, and each so many bytes after the
+// one before. The numbers here are small, so `as` takes them into 16 bits: try_from would have an Err that nothing gives.
+fn put_steps(places: &mut [u16], first: u16, size: u16, n: u16)
+    requires { (length places.old ≤ 64) × (n ≤ 64) × (first + 64 * size ≤ 65535) }
+    ensures { places.new ≡ padded (length places.old) (steps first size n) }
 {
-    let mut i: usize = 0;
-    while i < room {
-        to[at + i] = step(first, size, n, i as u16);
-        i += 1;
+    for i in 0..places.len() {
+        places[i] = step(first, size, n, i as u16);
     }
 }
 
 // The same where the places hold zeros: up to eight symbols need the first eight alone, and few signs have more of either kind.
-fn put_offsets(to: &mut [u16], at: usize, room: usize, first: u16, size: u16, n: u16)
-    requires { Cleared to.old at room × (8 ≤ room) × (room ≤ 64) × (n ≤ 64) × (first + 72 * size ≤ 65535) }
-    ensures { to.new ≡ paste to.old at (padded room (steps first size n)) room }
+fn put_offsets(places: &mut [u16], first: u16, size: u16, n: u16)
+    requires { (places.old ≡ zeros (length places.old)) × (8 ≤ length places.old) × (length places.old ≤ 64) × (n ≤ 64) × (first + 72 * size ≤ 65535) }
+    ensures { places.new ≡ padded (length places.old) (steps first size n) }
 {
-    put_steps(to, at, 8, first, size, n);
+    put_steps(&mut places[..8], first, size, n);
     if 8 < n {
-        put_steps(to, at + 8, room - 8, first + 8 * size, size, n - 8);
+        put_steps(&mut places[8..], first + 8 * size, size, n - 8);
     }
 }
 
@@ -50,7 +48,7 @@ pub fn put_prefix_offsets(set: Charset, p: usize, to: &mut [u16], at: usize)
 {
     let first = token::reading::marker_size(set);
     let size = token::reading::symbol_size(set);
-    put_offsets(to, at, 32, first as u16, size as u16, p as u16);
+    put_offsets(&mut to[at..at + 32], first as u16, size as u16, p as u16);
 }
 
 // Puts the offsets of n signbox symbols, after p prefix symbols, into the 64 places from `at` on, which hold zeros.
@@ -60,5 +58,5 @@ pub fn put_symbol_offsets(set: Charset, p: usize, n: usize, to: &mut [u16], at: 
 {
     let first = writer::arrays::sign_size(set, p, 0);
     let size = part::reading::spatial_size(set);
-    put_offsets(to, at, 64, first as u16, size as u16, n as u16);
+    put_offsets(&mut to[at..at + 64], first as u16, size as u16, n as u16);
 }

@@ -2,20 +2,20 @@
 use Prim.Native.Nat.{ℕ, ◌+◌, ◌-◌, ◌≤◌, ◌<◌}
 use mathlib.Core.Path.{◌≡◌, refl, sym, ap, ◌∙◌}
 use mathlib.Core.List.{List, ◌++◌}
-use mathlib.Core.Bool.{Bool, true, false, not, true≢false}
+use mathlib.Core.Bool.{Bool, true, false, true≢false}
 use native.Mathlib.Omega.{arith}
-use borrow.Author.Tests.{not-true, not-false, ne_eqb, eq-eqb, lt-leb, le-leb}
+use borrow.Author.Tests.{ne_eqb, lt-leb, le-leb}
 use lib.ListN.{length, take, drop, replicate, take-append-drop}
 use Rattle.format.proofs.Lists.{all_both}
 use Rattle.charset.specs.declared.Charset.{Charset}
 use Rattle.grammar.specs.Sign.{Meaning}
 use Rattle.token.specs.Refusal.{list_wrong, line_wrong, room_short}
 use Rattle.token.specs.Result.{Result, refusal, done}
+use Rattle.token.proofs.Checks.{refusal_done}
 use Rattle.reader.specs.Signs.{sign_of}
-use Rattle.lines.specs.declared.checked.Counted.{Counted}
 use Rattle.lines.specs.Lines.{lines as lines_of, first_line, line_of, line_start}
-use Rattle.lines.specs.Checked.{line_count, counted_as}
-use Rattle.lines.proofs.Counts.{count_whole, count_refused, count_done, counted_lines}
+use Rattle.lines.specs.Checked.{line_count}
+use Rattle.lines.proofs.Counts.{count_whole}
 use Rattle.lines.proofs.Starts.{line_at}
 use Rattle.linetable.specs.Table.{Table}
 use Rattle.narrowing.specs.Narrowing.{distinct, listed}
@@ -29,37 +29,37 @@ use Rattle.mergesort.specs.Inner.{placed_before}
 use Rattle.entries.specs.Entries.{is_done, readable, first_wrong}
 use Rattle.books.specs.Book.{Book, book_of}
 use Rattle.books.specs.Sorting.{prefix_of, entry_before, sorted_in, list_after, spare_after}
-use Rattle.books.proofs.Sorting.{was_sorted, sorted_counted}
-use Rattle.sorting.specs.declared.Checked.{Checked}
-use Rattle.sorting.specs.Inner.{not_checked, checked_as, Ready}
+use Rattle.books.proofs.Sorting.{was_sorted}
+use Rattle.sorting.specs.Inner.{lines_or, Ready}
 use Rattle.sorting.specs.Sorting.{sorted, sorted_as}
 
 -- THE CHECKS
-module _ (set : Charset) (dict list : List ℕ) (n room : ℕ) (c : Counted) (k : c ≡ counted_as (line_count dict)) where
-  abbrev whole : Checked
-  whole = checked_as (length (lines_of dict)) (sorted_in (book_of (set, dict)) list n room)
+module _ (set : Charset) (dict list : List ℕ) (n room : ℕ) where
+  abbrev whole : Result ℕ
+  whole = lines_or (length (lines_of dict)) (sorted_in (book_of (set, dict)) list n room)
 
-  pub by_dictionary : (c.number ≡ 0 → ⊥) → not_checked c.number 0 ≡ whole
+  pub by_dictionary : (x p : ℕ) → refusal x p ≡ line_count dict → refusal x p ≡ whole
   unfolding sorted_in
-  by_dictionary z = rw (count_refused dict c k z)
+  by_dictionary x p e = rw (sym e)
 
-  module _ (z : c.number ≡ 0) (t : Bool) (l : t ≡ listed (distinct c.lines) list n) where
-    pub by_11 : not t ≡ true → not_checked list_wrong 0 ≡ whole
+  module _ {lines : ℕ} (c : done lines ≡ line_count dict) (t : Bool) (l : t ≡ listed (distinct lines) list n) where
+    pub by_11 : t ≡ false → refusal list_wrong 0 ≡ whole
     unfolding sorted_in
-    by_11 h = rw (count_done dict c k z, sym l ∙ not-true t h)
+    by_11 h = rw (sym c, sym l ∙ h)
 
-    module _ (h : not t ≡ false) (wrong : ℕ) (w : wrong ≡ first_wrong set dict (take n list)) where
-      pub by_13 : (wrong ≡ 0 → ⊥) → not_checked line_wrong wrong ≡ whole
+    module _ (h : t ≡ true) where
+      pub by_13 : (wrong : ℕ) → wrong ≡ first_wrong set dict (take n list) → (first_wrong set dict (take n list) ≡ 0 → ⊥) → refusal line_wrong wrong ≡ whole
       unfolding sorted_in
-      by_13 q = rw (count_done dict c k z, sym l ∙ not-false t h, ← w, ne_eqb wrong 0 q)
+      by_13 wrong w q = rw (sym c, sym l ∙ h, w, ne_eqb (first_wrong set dict (take n list)) 0 q)
 
-      pub by-6 : wrong ≡ 0 → room < n → not_checked room_short n ≡ whole
-      unfolding sorted_in
-      by-6 q r = rw (count_done dict c k z, sym l ∙ not-false t h, ← w, eq-eqb wrong 0 q, lt-leb n room r)
+      module _ (q : first_wrong set dict (take n list) ≡ 0) where
+        pub by-6 : room < n → refusal room_short n ≡ whole
+        unfolding sorted_in
+        by-6 r = rw (sym c, sym l ∙ h, q, lt-leb n room r)
 
-      pub by-done : wrong ≡ 0 → n ≤ room → record { number = 0; place = 0; lines = c.lines } ≡ whole
-      unfolding sorted_in
-      by-done q r = rw (count_done dict c k z, sym l ∙ not-false t h, ← w, eq-eqb wrong 0 q, le-leb n room r, counted_lines dict c k z)
+        pub by-done : n ≤ room → done lines ≡ whole
+        unfolding sorted_in
+        by-done r = rw (sym c, sym l ∙ h, q, le-leb n room r, (count_whole dict lines (sym c)).lines)
 
 -- THE TABLE'S ORDER is that of the entries, where their lines are signs
 pub record Entry (set : Charset) (dict : List ℕ) (e : ℕ) : Type 0 where
@@ -102,50 +102,53 @@ module _ (set : Charset) (dict bases offsets : List ℕ) (t : Table dict bases o
       (distinct_within (length (lines_of dict)) (take n list) r.good.passes) r.good.reads)
 
 -- WHAT IS CHECKED decides the sort
-module _ (set : Charset) (dict list : List ℕ) (n : ℕ) (spare : List ℕ) (c : Checked)
-    (k : c ≡ checked_as (length (lines_of dict)) (sorted_in (book_of (set, dict)) list n (length spare))) where
+module _ (set : Charset) (dict list : List ℕ) (n : ℕ) (spare : List ℕ) where
   abbrev book : Book
   book = book_of (set, dict)
 
-  pub refused : (c.number ≡ 0 → ⊥) → record {
-    answer : record { number = c.number; place = c.place } ≡ sorted_as (sorted set dict list n spare);
+  abbrev checked : Result (List ℕ) → Result ℕ
+  checked r = lines_or (length (lines_of dict)) r
+
+  pub refused : (x p : ℕ) → refusal x p ≡ checked (sorted_in book list n (length spare)) → record {
+    answer : record { number = x; place = p } ≡ sorted_as (sorted set dict list n spare);
     memory : list ≡ list_after list n (sorted set dict list n spare);
     second : spare ≡ spare_after spare n (sorted set dict list n spare);
   }
   unfolding sorted
-  refused z = go (sorted_in book list n (length spare)) k
+  refused x p k = go (sorted_in book list n (length spare)) k
     where
-      go : (r : Result (List ℕ)) → c ≡ checked_as (length (lines_of dict)) r
-          → record { answer : record { number = c.number; place = c.place } ≡ sorted_as r; memory : list ≡ list_after list n r; second : spare ≡ spare_after spare n r }
-      go (refusal number place) e = record { answer = rw e; memory = refl; second = refl }
-      go (done entries) e = absurd (z (ap (λ x. x.number) e))
+      go : (r : Result (List ℕ)) → refusal x p ≡ checked r
+          → record { answer : record { number = x; place = p } ≡ sorted_as r; memory : list ≡ list_after list n r; second : spare ≡ spare_after spare n r }
+      go (refusal number place) e = let a : x ≡ number = cc in let b : p ≡ place = cc in record { answer = rw (a, b); memory = refl; second = refl }
+      go (done entries) e = refusal_done x p e
 
-  pub ready : c.number ≡ 0 → Ready set dict list n (length spare) c.lines
-  ready z = go (sorted_in book list n (length spare)) refl k
-    where
-      go : (r : Result (List ℕ)) → sorted_in book list n (length spare) ≡ r → c ≡ checked_as (length (lines_of dict)) r → Ready set dict list n (length spare) c.lines
-      go (refusal number place) f e = absurd (omega (arith, sorted_counted book list n (length spare) number place f, ap (λ x. x.number) e))
-      go (done entries) f e =
-          let w = was_sorted book list n (length spare) entries f in
-          let l = ap (λ x. x.lines) e in
-          record {
-            counted = l;
-            few = omega (arith, l, (count_whole dict (length (lines_of dict)) w.good.fine).few);
-            within = w.within;
-            space = w.space;
-            good = w.good;
-          }
+  module _ (lines : ℕ) (k : done lines ≡ checked (sorted_in book list n (length spare))) where
+    pub ready : Ready set dict list n (length spare) lines
+    ready = go (sorted_in book list n (length spare)) refl k
+      where
+        go : (r : Result (List ℕ)) → sorted_in book list n (length spare) ≡ r → done lines ≡ checked r → Ready set dict list n (length spare) lines
+        go (refusal number place) f e = refusal_done number place (sym e)
+        go (done entries) f e =
+            let w = was_sorted book list n (length spare) entries f in
+            let l : lines ≡ length (lines_of dict) = cc in
+            record {
+              counted = l;
+              few = omega (arith, l, (count_whole dict (length (lines_of dict)) w.good.fine).few);
+              within = w.within;
+              space = w.space;
+              good = w.good;
+            }
 
-  pub sorts : (z : c.number ≡ 0) (after second : List ℕ) → after ≡ arranged (entry_before book) (take n list) ++ drop n list → second ≡ replicate n 0 ++ drop n spare
-      → record {
-        answer : record { number = 0; place = 0 } ≡ sorted_as (sorted set dict list n spare);
-        memory : after ≡ list_after list n (sorted set dict list n spare);
-        second : second ≡ spare_after spare n (sorted set dict list n spare);
-      }
-  unfolding sorted
-  sorts z after second f g = go (sorted_in book list n (length spare)) refl k
-    where
-      go : (r : Result (List ℕ)) → sorted_in book list n (length spare) ≡ r → c ≡ checked_as (length (lines_of dict)) r
-          → record { answer : record { number = 0; place = 0 } ≡ sorted_as r; memory : after ≡ list_after list n r; second : second ≡ spare_after spare n r }
-      go (refusal number place) h e = absurd (omega (arith, sorted_counted book list n (length spare) number place h, ap (λ x. x.number) e))
-      go (done entries) h e = record { answer = refl; memory = f ∙ ap (λ x. x ++ drop n list) (sym (was_sorted book list n (length spare) entries h).is); second = g }
+    pub sorts : (after second : List ℕ) → after ≡ arranged (entry_before book) (take n list) ++ drop n list → second ≡ replicate n 0 ++ drop n spare
+        → record {
+          answer : record { number = 0; place = 0 } ≡ sorted_as (sorted set dict list n spare);
+          memory : after ≡ list_after list n (sorted set dict list n spare);
+          second : second ≡ spare_after spare n (sorted set dict list n spare);
+        }
+    unfolding sorted
+    sorts after second f g = go (sorted_in book list n (length spare)) refl k
+      where
+        go : (r : Result (List ℕ)) → sorted_in book list n (length spare) ≡ r → done lines ≡ checked r
+            → record { answer : record { number = 0; place = 0 } ≡ sorted_as r; memory : after ≡ list_after list n r; second : second ≡ spare_after spare n r }
+        go (refusal number place) h e = refusal_done number place (sym e)
+        go (done entries) h e = record { answer = refl; memory = f ∙ ap (λ x. x ++ drop n list) (sym (was_sorted book list n (length spare) entries h).is); second = g }

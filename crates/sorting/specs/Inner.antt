@@ -1,20 +1,15 @@
 -- What is checked before a sort, and what arranging then needs.
 use Rattle.std.specs.Prelude.{ℕ, ◌≤◌, ◌≡◌, List, length, take}
 use Rattle.charset.specs.declared.Charset.{Charset}
-use Rattle.token.specs.Result.{Result, refusal, done}
+use Rattle.token.specs.Result.{Result, on_done}
 use Rattle.lines.specs.Lines.{lines as lines_of}
 use Rattle.narrowing.specs.Narrowing.{distinct}
 use Rattle.books.specs.Book.{book_of}
 use Rattle.books.specs.Forms.{GoodBy}
-use Rattle.sorting.specs.declared.Checked.{Checked}
-
-abbrev pub not_checked : ℕ → ℕ → Checked
-not_checked number place = record { number = number; place = place; lines = 0 }
 
 -- the refusal of a call over so many lines, or their number
-abbrev pub checked_as : ℕ → Result (List ℕ) → Checked
-checked_as lines (refusal number place) = not_checked number place
-checked_as lines (done entries) = record { number = 0; place = 0; lines = lines }
+abbrev pub lines_or : ℕ → Result (List ℕ) → Result ℕ
+lines_or lines r = on_done (λ _. lines) r
 
 -- nothing is refused
 pub record Ready (set : Charset) (dict list : List ℕ) (n room lines : ℕ) : Type 0 where

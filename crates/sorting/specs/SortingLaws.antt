@@ -5,7 +5,7 @@ use Rattle.format.specs.Format.{keep}
 use Rattle.charset.specs.declared.Charset.{Charset}
 use Rattle.token.specs.Result.{done}
 use Rattle.sign.specs.Transcription.{other_set}
-use Rattle.arrangement.specs.Arranged.{arranged, level}
+use Rattle.arrangement.specs.Arranged.{level}
 use Rattle.arrangement.specs.Laws.{Order, InOrder, Arrangement}
 use Rattle.books.specs.Book.{Book, book_of, rewritten, Sound}
 use Rattle.books.specs.Sorting.{prefix_of, entry_before, list_after, spare_after}

@@ -1,135 +1,149 @@
--- What is refused of a sign and its styling, in order: one law for each return.
+-- A styling that is judged with its sign, and the first dash.
 use Prim.Native.Nat.{ℕ, suc, ◌+◌, ◌≤◌, ◌<◌}
-use mathlib.Core.List.{List, ◌∷◌}
+use mathlib.Core.List.{List, [], ◌∷◌}
 use mathlib.Core.Path.{◌≡◌, refl, sym, ap, ◌∙◌}
-use mathlib.Core.Bool.{true, false, ◌&&◌}
-use lib.Dec.{eqb}
-use lib.ListN.{length, get_or, drop, drop_of_length-le}
-use lib.Seq.{drop-cons}
+use mathlib.Core.Bool.{Bool, true, false, cond, not}
+use lib.Dec.{eqb, leb, ltb}
+use lib.ListN.{length, drop}
 use native.Mathlib.Omega.{arith}
-use native.Mathlib.Numerals.{add-one}
-use borrow.Author.Tests.{eq-eqb, ne_eqb}
+use borrow.Author.Tests.{leb-true, leb-false, lt-ltb, le-ltb, ltb-true, ltb-false}
+use Rattle.std.specs.Prelude.{Result as Answer, Ok, Err, Option, Some, None}
+use Rattle.std.specs.Result.{IsErrAnd}
+use Rattle.std.specs.List.{position, position_or_len}
 use Rattle.format.specs.Format.{choose}
-use Rattle.format.specs.Places.{Outcome, fine, refused, ends_short}
+use Rattle.format.specs.Places.{Outcome, fine, refused, ends_short, reading}
 use Rattle.charset.specs.declared.Charset.{Charset}
+use Rattle.grammar.specs.declared.Head.{Head}
+use Rattle.grammar.specs.declared.Symbols.{Symbols}
 use Rattle.grammar.specs.Sign.{Meaning, read_sign}
-use Rattle.token.specs.Refusal.{text_short, zoom_outside, colour_long, styles_long}
-use Rattle.token.specs.Result.{of_outcome}
-use Rattle.reader.specs.declared.arrays.Head.{Head}
-use Rattle.reader.specs.Inner.{no_head, limited, ReadAs, whole, TextInto}
+use Rattle.token.specs.declared.refusal.Refusal.{Refusal}
+use Rattle.token.specs.declared.refusal.Refusal.TheVariants.{TextShort}
+use Rattle.token.specs.Refusal.{number_of, place_of, prefix_long, signbox_long, zoom_outside, colour_long, styles_long}
+use Rattle.token.specs.Result.{Result, refusal, done, outcome, on_done, check, and_then, of_outcome}
+use Rattle.token.proofs.Checks.{refusal_done}
+use Rattle.token.proofs.Results.{same_done}
+use Rattle.token.proofs.Handed.{handed}
+use Rattle.reader.specs.Signs.{within_limits}
+use Rattle.reader.specs.Inner.{head_of, limited, TextInto}
+use Rattle.stylinggrammar.specs.Styling.{Spelling, styling}
+use Rattle.stylinggrammar.specs.Meaning.{zooms_good, names_good, styles_few}
+use Rattle.stylinggrammar.specs.Styled.{dash_at, undashed, dashed}
 use Rattle.stylingreader.specs.declared.reading.Found.{Found}
-use Rattle.stylinggrammar.specs.Styled.{dash_at, undashed}
-use Rattle.styling.specs.Writing.{same_numbers}
-use Rattle.styling.specs.Inner.{refused_as, undashed_head, judged_head, placed_at}
+use Rattle.stylingreader.specs.Reading.{found_of, StylingIn}
+use Rattle.styling.specs.Reading.{styled_limits}
+use Rattle.styling.specs.Inner.{Undashed, judged_head, StylingAfter}
+use Rattle.styling.proofs.Offsets.{shifted, from_offset}
 
-module _ (f : Found) (at : ℕ) (h : Head) where
-  pub judged_refused : (f.number ≡ 0 → ⊥) → no_head f.number (at + f.place) ≡ judged_head f at h
+-- a refusal of another call
+pub refusal_as : {A B : Type 0} {n p k q : ℕ} → ◌≡◌ {A = Result A} (refusal n p) (refusal k q) → ◌≡◌ {A = Result B} (refusal n p) (refusal k q)
+refusal_as {n = n} {p = p} {k = k} {q = q} e = let x : n ≡ k = cc in let y : p ≡ q = cc in λ i. refusal (x i) (y i)
+
+-- A STYLING AFTER A SIGN
+
+module _ (at : ℕ) (m : Meaning) (t : Spelling) where
+  limits_go : (p q : Bool) → leb (length m.prefix) 32 ≡ p → leb (length m.symbols) 64 ≡ q
+      → on_done {B = Head × ℕ} (λ h. (h, at)) (outcome (limited (head_of m)))
+      ≡ on_done {B = Head × ℕ} (λ (p : Meaning × Spelling). (head_of p.0, at)) (on_done (λ m. (m, t)) (check p prefix_long 0 (check q signbox_long 0 (done m))))
+  unfolding limited
+  limits_go false q x y = rw (lt-ltb 32 (length m.prefix) (leb-false (length m.prefix) 32 x))
+  limits_go true false x y =
+      rw (le-ltb 32 (length m.prefix) (leb-true (length m.prefix) 32 x), lt-ltb 64 (length m.symbols) (leb-false (length m.symbols) 64 y))
+  limits_go true true x y =
+      rw (le-ltb 32 (length m.prefix) (leb-true (length m.prefix) 32 x), le-ltb 64 (length m.symbols) (leb-true (length m.symbols) 64 y))
+
+  judged_go : (z n w : Bool)
+      → on_done {B = Head × ℕ} (λ h. (h, at)) (outcome (judged_head (record { zooms = z; names = n; few = w }) (head_of m)))
+      ≡ on_done {B = Head × ℕ} (λ (p : Meaning × Spelling). (head_of p.0, at)) (and_then (check z zoom_outside 0 (check n colour_long 0 (check w styles_long 0 (done t)))) λ t. on_done (λ m. (m, t)) (within_limits m))
   unfolding judged_head
-  judged_refused n = rw (ne_eqb f.number 0 n)
+  judged_go true true true = limits_go (leb (length m.prefix) 32) (leb (length m.symbols) 64) refl refl
+  judged_go true true false = refl
+  judged_go true false w = refl
+  judged_go false n w = refl
 
-  module _ (n : f.number ≡ 0) where
-    pub judged_zooms : f.zooms ≡ false → no_head zoom_outside 0 ≡ judged_head f at h
-    unfolding judged_head
-    judged_zooms z = rw (eq-eqb f.number 0 n, z)
+  judged_is : on_done {B = Head × ℕ} (λ h. (h, at)) (outcome (judged_head (found_of t) (head_of m))) ≡ on_done {B = Head × ℕ} (λ p. (head_of p.0, at)) (styled_limits (m, t))
+  judged_is = judged_go (zooms_good t) (names_good t) (styles_few t)
 
-    module _ (z : f.zooms ≡ true) where
-      pub judged-names : f.names ≡ false → no_head colour_long 0 ≡ judged_head f at h
-      unfolding judged_head
-      judged-names k = rw (eq-eqb f.number 0 n, z, k)
+module _ (s : List ℕ) (at : ℕ) (room : at ≤ length s) (h : Head) (r : Answer (Head × ℕ) Refusal) (o p : List ℕ) where
+  -- the styling is refused
+  refused_go : (e : Refusal) (m : Meaning) (w : Outcome Spelling) → outcome {A = Found} (Err e) ≡ on_done found_of (of_outcome (length s) (shifted at w))
+      → outcome {A = Head × ℕ} (Err e) ≡ on_done {B = Head × ℕ} (λ p. (head_of p.0, at)) (and_then (of_outcome (length s) (dashed at m w)) styled_limits)
+  refused_go e m (fine t) q = refusal_done (number_of e) (place_of e) q
+  refused_go e m (refused i) q = refusal_as q
+  refused_go e m ends_short q = refusal_as q
 
-      module _ (k : f.names ≡ true) where
-        pub judged-styles : f.few ≡ false → no_head styles_long 0 ≡ judged_head f at h
-        unfolding judged_head
-        judged-styles w = rw (eq-eqb f.number 0 n, z, k, w)
+  pub after_refused : (e : Refusal) → StylingIn s at (Err e) o p → IsErrAnd r (λ d. d ≡ e) → StylingAfter s at h r o p
+  after_refused e v k = record {
+    is = λ m q. ap outcome (handed r e k) ∙ refused_go e m (reading 1 styling (drop at s)) (v.is ∙ ap (on_done found_of) (from_offset s at room));
+    puts = v.puts;
+  }
 
-        module _ (w : f.few ≡ true) (l : Head) (e : l ≡ limited h) where
-          pub judged-limits : (l.number ≡ 0 → ⊥) → l ≡ judged_head f at h
-          unfolding judged_head
-          judged-limits q = rw (eq-eqb f.number 0 n, z, k, w, ← e, ne_eqb l.number 0 q)
+  -- it is found
+  record WasFound (f : Found) : Type 0 where
+    pub spelling : Spelling
+    pub reads : reading 1 styling (drop at s) ≡ fine spelling
+    pub is : f ≡ found_of spelling
 
-          pub judged-done : l.number ≡ 0 → placed_at at l ≡ judged_head f at h
-          unfolding judged_head
-          judged-done q = rw (eq-eqb f.number 0 n, z, k, w, ← e)
+  found_go : (f : Found) (w : Outcome Spelling) → reading 1 styling (drop at s) ≡ w → done f ≡ on_done found_of (of_outcome (length s) (shifted at w)) → WasFound f
+  found_go f (fine t) e q = record { spelling = t; reads = e; is = same_done q }
+  found_go f (refused i) e q = refusal_done 1 (at + i) (sym q)
+  found_go f ends_short e q = refusal_done 2 (length s) (sym q)
 
-pub placed_done : (at : ℕ) (l : Head) → l.number ≡ 0 → placed_at at l ≡ record {
-  number = 0;
-  place = at;
-  marker = l.marker;
-  max_x = l.max_x;
-  max_y = l.max_y;
-  prefix_count = l.prefix_count;
-  symbol_count = l.symbol_count;
-}
-placed_done at l q = rw (eq-eqb l.number 0 q)
+  pub after_judged : (f : Found) → StylingIn s at (Ok f) o p → outcome r ≡ on_done {B = Head × ℕ} (λ h. (h, at)) (outcome (judged_head f h)) → StylingAfter s at h r o p
+  after_judged f v e =
+      let w = found_go f (reading 1 styling (drop at s)) refl (v.is ∙ ap (on_done found_of) (from_offset s at room)) in
+      record {
+        is = λ m q.
+            e ∙ (λ i. on_done {B = Head × ℕ} (λ h. (h, at)) (outcome (judged_head (w.is i) (q i)))) ∙ judged_is at m w.spelling
+            ∙ ap (λ w. on_done {B = Head × ℕ} (λ p. (head_of p.0, at)) (and_then (of_outcome (length s) (dashed at m w)) styled_limits)) (sym w.reads);
+        puts = v.puts;
+      }
 
--- a text without a dash
-module _ (set : Charset) (s : List ℕ) (h : Head) (array codes xs ys : List ℕ) (v : TextInto set s h array codes xs ys) where
-  refused_go : (size : ℕ) (o : Outcome Meaning) → ReadAs (whole (of_outcome size o)) h array codes xs ys → (h.number ≡ 0 → ⊥) → h ≡ refused_as (of_outcome size (undashed o))
-  refused_go size (fine m) q z = absurd (z (ap (λ k. k.number) q.0))
-  refused_go size (refused p) q z = q
-  refused_go size ends_short q z = q
+-- WITHOUT A DASH
 
-  pub undashed_refused : (h.number ≡ 0 → ⊥) → h ≡ undashed_head set s
-  unfolding undashed_head
-  undashed_refused z = refused_go (length s) (read_sign set s) v.is z
+module _ (set : Charset) (s : List ℕ) (symbols : Symbols) where
+  unread_go : (e : Refusal) (w : Outcome Meaning) → outcome {A = Head} (Err e) ≡ on_done head_of (of_outcome (length s) w)
+      → ◌≡◌ {A = Result (Meaning × Spelling)} (refusal (number_of e) (place_of e)) (of_outcome (length s) (undashed w))
+  unread_go e (fine m) q = refusal_done (number_of e) (place_of e) q
+  unread_go e (refused p) q = refusal_as q
+  unread_go e ends_short q = refusal_as q
 
-  whole_go : (size : ℕ) (o : Outcome Meaning) → ReadAs (whole (of_outcome size o)) h array codes xs ys → h.number ≡ 0 → no_head text_short size ≡ refused_as (of_outcome size (undashed o))
-  whole_go size (fine m) q z = refl
-  whole_go size (refused p) q z = absurd (let e = ap (λ k. k.number) q in omega (arith, e, z))
-  whole_go size ends_short q z = refl
+  pub undashed_refused : (e : Refusal) → TextInto set s (Err e) symbols → Undashed set s e
+  undashed_refused e v = record { is = unread_go e (read_sign set s) v.is }
 
-  pub undashed_whole : h.number ≡ 0 → no_head text_short (length s) ≡ undashed_head set s
-  unfolding undashed_head
-  undashed_whole z = whole_go (length s) (read_sign set s) v.is z
+  whole_go : (h : Head) (w : Outcome Meaning) → done h ≡ on_done head_of (of_outcome (length s) w)
+      → ◌≡◌ {A = Result (Meaning × Spelling)} (refusal 2 (length s)) (of_outcome (length s) (undashed w))
+  whole_go h (fine m) q = refl
+  whole_go h (refused p) q = refusal_done 1 p (sym q)
+  whole_go h ends_short q = refl
+
+  pub undashed_whole : (h : Head) → TextInto set s (Ok h) symbols → Undashed set s (TextShort (length s))
+  undashed_whole h v = record { is = whole_go h (read_sign set s) v.is }
 
 -- THE FIRST DASH
 
-pub record Passed (s : List ℕ) (i : ℕ) : Type 0 where
-  pub inside : i ≤ length s
-  pub is : dash_at s ≡ i + dash_at (drop i s)
+dash_go : (n m : ℕ) → n ≡ m → (t : Bool) → cond (not t) (1 + n) 0 ≡ choose t 0 (suc m)
+dash_go n m e true = refl
+dash_go n m e false = omega (arith, e)
 
-module _ (s : List ℕ) where
-  pub passed_none : Passed s 0
-  passed_none = record { inside = omega arith; is = omega arith }
+dash_is : (s : List ℕ) → position_or_len (λ b. eqb b 45) s ≡ dash_at s
+unfolding dash_at
+dash_is [] = refl
+dash_is (b ∷ s) = dash_go (position_or_len (λ b. eqb b 45) s) (dash_at s) (dash_is s) (eqb b 45)
 
-  module _ (i : ℕ) (p : Passed s i) where
-    pub dash_here : i < length s → get_or s i 0 ≡ 45 → i ≡ dash_at s
-    unfolding dash_at
-    dash_here h e = sym (p.is ∙ ap (λ l. i + dash_at l) (drop-cons s i 0 h ∙ ap (λ b. b ∷ drop (suc i) s) e) ∙ omega arith)
+module _ (s : List ℕ) (r : Option ℕ) (e : r ≡ position (λ b. eqb b 45) s) where
+  found_dash : r ≡ cond (ltb (dash_at s) (length s)) (Some (dash_at s)) None
+  found_dash = e ∙ ap (λ n. cond (ltb n (length s)) (Some n) None) (dash_is s)
 
-    pub dash_later : i < length s → (get_or s i 0 ≡ 45 → ⊥) → Passed s (i + 1)
-    unfolding dash_at
-    dash_later h n = record {
-      inside = omega arith;
-      is = p.is ∙ ap (λ l. i + dash_at l) (drop-cons s i 0 h) ∙ ap (λ t. i + choose t 0 (suc (dash_at (drop (suc i) s)))) (ne_eqb (get_or s i 0) 45 n) ∙ rw (add-one i) (omega arith);
-    }
+  none_go : (t : Bool) → ltb (dash_at s) (length s) ≡ t → None ≡ cond t (Some (dash_at s)) None → length s ≤ dash_at s
+  none_go true q k = absurd (cc k)
+  none_go false q k = ltb-false (dash_at s) (length s) q
 
-    pub dash_none : length s ≤ i → i ≡ dash_at s
-    unfolding dash_at
-    dash_none h = sym (p.is ∙ ap (λ l. i + dash_at l) (drop_of_length-le s h) ∙ omega arith)
+  pub dash_none : r ≡ None → length s ≤ dash_at s
+  dash_none k = none_go (ltb (dash_at s) (length s)) refl (sym k ∙ found_dash)
 
--- TWO RECORDS
+  some_go : (at : ℕ) (t : Bool) → ltb (dash_at s) (length s) ≡ t → Some at ≡ cond t (Some (dash_at s)) None → (at ≡ dash_at s) × (at < length s)
+  some_go at true q k = let x : at ≡ dash_at s = cc in let y = ltb-true (dash_at s) (length s) q in (x, omega arith)
+  some_go at false q k = absurd (cc k)
 
-pub record Alike (a b : List ℕ) (i : ℕ) : Type 0 where
-  pub within : (i ≤ length a) × (i ≤ length b)
-  pub is : same_numbers a b ≡ same_numbers (drop i a) (drop i b)
-
-module _ (a b : List ℕ) where
-  pub alike_none : Alike a b 0
-  alike_none = record { within = (omega arith, omega arith); is = refl }
-
-  module _ (i : ℕ) (p : Alike a b i) where
-    next : i < length a → i < length b → same_numbers a b ≡ (eqb (get_or a i 0) (get_or b i 0) && same_numbers (drop (suc i) a) (drop (suc i) b))
-    next h k = p.is ∙ (λ j. same_numbers (drop-cons a i 0 h j) (drop-cons b i 0 k j))
-
-    pub alike_not : i < length a → i < length b → (get_or a i 0 ≡ get_or b i 0 → ⊥) → false ≡ same_numbers a b
-    alike_not h k n = sym (next h k ∙ ap (λ t. t && same_numbers (drop (suc i) a) (drop (suc i) b)) (ne_eqb (get_or a i 0) (get_or b i 0) n))
-
-    pub alike_on : i < length a → i < length b → get_or a i 0 ≡ get_or b i 0 → Alike a b (i + 1)
-    alike_on h k e = record {
-      within = (omega arith, omega arith);
-      is = next h k ∙ ap (λ t. t && same_numbers (drop (suc i) a) (drop (suc i) b)) (eq-eqb (get_or a i 0) (get_or b i 0) e) ∙ rw (add-one i) refl;
-    }
-
-    pub alike_all : length a ≤ i → length b ≤ i → true ≡ same_numbers a b
-    alike_all h k = sym (p.is ∙ (λ j. same_numbers (drop_of_length-le a h j) (drop_of_length-le b k j)))
+  pub dash_some : (at : ℕ) → r ≡ Some at → (at ≡ dash_at s) × (at < length s)
+  dash_some at k = some_go at (ltb (dash_at s) (length s)) refl (sym k ∙ found_dash)

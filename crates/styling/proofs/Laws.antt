@@ -1,13 +1,12 @@
 -- The laws of reading, writing and transcription.
 use Prim.Native.Nat.{ℕ, ◌≤◌}
 use mathlib.Core.Path.{◌≡◌, refl, sym, ap, ◌∙◌}
-use mathlib.Core.List.{List, [], ◌∷◌, ◌++◌}
-use mathlib.Core.Bool.{Bool, true, false, ◌&&◌}
+use mathlib.Core.List.{List, [], ◌++◌}
+use mathlib.Core.Bool.{Bool, true, false}
 use mathlib.Core.Logic.{◌↔◌}
 use native.Mathlib.Omega.{arith}
-use lib.Dec.{eqb}
 use lib.ListN.{length, take, drop}
-use borrow.Author.Tests.{eqb-true, eq-eqb}
+use Rattle.std.proofs.lemmas.Slice.Eq.{bytes_eq-Decides}
 use Rattle.format.specs.Places.{fine, reading}
 use Rattle.charset.specs.declared.Charset.{Charset}
 use Rattle.grammar.specs.Sign.{Meaning, sign_text}
@@ -33,7 +32,7 @@ use Rattle.styling.specs.Reading.{styled_of, styled_reading, record_left}
 use Rattle.styling.specs.Transcription.{styled_transcription}
 use Rattle.styling.specs.Writing.{record_read, same_numbers, is_record, writing}
 use Rattle.styling.specs.Laws.{HasRecord, ReadingLaws, WritingLaws, StyledTranscriptionLaws}
-use Rattle.styling.proofs.Splits.{String, string_of, string_reads, Split, styled_split, split_styled, styled_counted, split_dash, split_sign, split_string}
+use Rattle.styling.proofs.Splits.{String, string_of, string_reads, Split, styled_split, split_styled, styled_counted, split_sign, split_string}
 
 -- READING
 
@@ -91,18 +90,10 @@ reading_laws = record { sign = sign_read; styling = record_read_lem; joined = jo
 -- WRITING
 
 same_refl : (l : List ℕ) → same_numbers l l ≡ true
-same_refl [] = refl
-same_refl (a ∷ l) = rw (eq-eqb a a refl, same_refl l)
-
-same_go : (a b : ℕ) (l m : List ℕ) (t : Bool) → eqb a b ≡ t → (t && same_numbers l m) ≡ true → (same_numbers l m ≡ true → l ≡ m) → a ∷ l ≡ b ∷ m
-same_go a b l m true p q k = let x = eqb-true a b p in let y = k q in λ i. x i ∷ y i
-same_go a b l m false p q k = true_false (sym q)
+same_refl l = (bytes_eq-Decides l l).1 refl
 
 pub same_true : (l m : List ℕ) → same_numbers l m ≡ true → l ≡ m
-same_true [] [] e = refl
-same_true [] (b ∷ m) e = true_false (sym e)
-same_true (a ∷ l) [] e = true_false (sym e)
-same_true (a ∷ l) (b ∷ m) e = same_go a b l m (eqb a b) refl e (same_true l m)
+same_true l m = (bytes_eq-Decides l m).0
 
 record_true : (w : List ℕ) (r : Result (List ℕ)) → is_record w r ≡ true → r ≡ done w
 record_true w (refusal n p) e = true_false (sym e)

@@ -8,7 +8,7 @@ use lib.Seq.{take-append_seam, drop-append_seam}
 use Rattle.format.specs.Places.{fine, reading}
 use Rattle.charset.specs.declared.Charset.{Charset}
 use Rattle.charset.specs.Tokens.{tokens}
-use Rattle.grammar.specs.Sign.{Meaning, Valid, sign, sign_text}
+use Rattle.grammar.specs.Sign.{Meaning, sign, sign_text}
 use Rattle.grammar.proofs.SignLaws.{sign_fine}
 use Rattle.token.specs.Refusal.{zoom_outside, colour_long, styles_long}
 use Rattle.token.specs.Result.{done, on_done, check, and_then, of_outcome}

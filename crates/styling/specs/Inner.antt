@@ -1,55 +1,48 @@
 -- What the inner functions that read a styled text promise.
-use Rattle.std.specs.Prelude.{ℕ, ◌+◌, ◌≡◌, List, [], eqb, length}
+use Rattle.std.specs.Prelude.{Result as Answer, Err, ℕ, ◌≡◌, List, [], length, drop}
 use Rattle.format.specs.Format.{choose}
+use Rattle.format.specs.Places.{reading}
 use Rattle.charset.specs.declared.Charset.{Charset}
+use Rattle.grammar.specs.declared.Head.{Head}
+use Rattle.grammar.specs.declared.Symbols.{Symbols}
 use Rattle.grammar.specs.Sign.{Meaning, read_sign}
 use Rattle.token.specs.Padded.{zeros}
-use Rattle.token.specs.Refusal.{zoom_outside, colour_long, styles_long}
-use Rattle.token.specs.Result.{Result, refusal, done, on_done, of_outcome}
-use Rattle.reader.specs.declared.arrays.Head.{Head}
-use Rattle.reader.specs.Inner.{no_head, limited, ReadAs}
-use Rattle.stylinggrammar.specs.Styling.{Spelling}
+use Rattle.token.specs.declared.refusal.Refusal.{Refusal}
+use Rattle.token.specs.declared.refusal.Refusal.TheVariants.{ZoomOutside, ColourLong, StylesLong}
+use Rattle.token.specs.Refusal.{number_of, place_of}
+use Rattle.token.specs.Result.{Result, refusal, done, outcome, on_done, and_then, of_outcome}
+use Rattle.reader.specs.Inner.{head_of, HoldsSign, limited}
+use Rattle.stylinggrammar.specs.Styling.{Spelling, styling}
 use Rattle.stylinggrammar.specs.Meaning.{meaning}
 use Rattle.stylinggrammar.specs.StylingLaws.{Accepted}
 use Rattle.stylinggrammar.specs.Record.{draft_size, record_of}
 use Rattle.stylinggrammar.specs.Filling.{put_styling}
+use Rattle.stylinggrammar.specs.Styled.{dash_at, undashed, dashed}
 use Rattle.stylingreader.specs.declared.reading.Found.{Found}
 use Rattle.stylingreader.specs.Reading.{styling_from}
-use Rattle.stylinggrammar.specs.Styled.{dash_at, undashed}
-use Rattle.styling.specs.Reading.{styled_of}
+use Rattle.styling.specs.Reading.{styled_limits, styled_of}
 
--- a styled text that was read, in lent arrays; its place is where the styling starts
-pub record StyledInto (set : Charset) (s : List ℕ) (h : Head) (prefix codes xs ys : List ℕ) : Type 0 where
-  pub is : ReadAs (on_done (λ p. (p.0, dash_at s)) (styled_of set s)) h prefix codes xs ys
+-- a styled text that was read: its sign in memory, and where its styling starts
+pub record StyledInto (set : Charset) (s : List ℕ) (r : Answer (Head × ℕ) Refusal) (symbols : Symbols) : Type 0 where
+  pub is : outcome r ≡ on_done (λ p. (head_of p.0, dash_at s)) (styled_of set s)
+  pub holds : HoldsSign (on_done (λ p. p.0) (styled_of set s)) symbols
 
--- the refusal of a text without a dash after a whole sign, which is never done
-abbrev pub refused_as : Result (Meaning × Spelling) → Head
-refused_as (refusal number place) = no_head number place
-refused_as (done p) = no_head 0 0
+-- the refusal of a text without a dash after a whole sign
+pub record Undashed (set : Charset) (s : List ℕ) (e : Refusal) : Type 0 where
+  pub is : refusal (number_of e) (place_of e) ≡ of_outcome (length s) (undashed (read_sign set s))
 
-unfoldable pub undashed_head : Charset → List ℕ → Head
-undashed_head set s = refused_as (of_outcome (length s) (undashed (read_sign set s)))
+-- a sign and its styling, judged in the order of the refusals
+unfoldable pub judged_head : Found → Head → Answer Head Refusal
+judged_head f h = choose f.zooms (choose f.names (choose f.few (limited h) (Err StylesLong)) (Err ColourLong)) (Err ZoomOutside)
 
--- a sign that was read, with its place at an offset
-abbrev pub placed_at : ℕ → Head → Head
-placed_at at h = choose (eqb h.number 0) (record {
-  number = 0;
-  place = at;
-  marker = h.marker;
-  max_x = h.max_x;
-  max_y = h.max_y;
-  prefix_count = h.prefix_count;
-  symbol_count = h.symbol_count;
-}) h
+-- what a sign comes to with the styling that stands at an offset
+abbrev pub with_styling : List ℕ → ℕ → Meaning → Result (Meaning × Spelling)
+with_styling s at m = and_then (of_outcome (length s) (dashed at m (reading 1 styling (drop at s)))) styled_limits
 
--- a sign and its styling at an offset, judged in the order of the refusals
-unfoldable pub judged_head : Found → ℕ → Head → Head
-judged_head f at h =
-    choose (eqb f.number 0)
-    (choose f.zooms
-    (choose f.names
-    (choose f.few (placed_at at (limited h)) (no_head styles_long 0)) (no_head colour_long 0)) (no_head zoom_outside 0))
-    (no_head f.number (at + f.place))
+-- that was read, into lent memory that was o
+pub record StylingAfter (s : List ℕ) (at : ℕ) (h : Head) (r : Answer (Head × ℕ) Refusal) (o p : List ℕ) : Type 0 where
+  pub is : (m : Meaning) → h ≡ head_of m → outcome r ≡ on_done (λ p. (head_of p.0, at)) (with_styling s at m)
+  pub puts : (t : Spelling) → styling_from s at ≡ done t → p ≡ put_styling t o
 
 -- the styling of a text that was read, in lent memory that was o
 pub record DraftInto (set : Charset) (s o p : List ℕ) : Type 0 where

@@ -5,8 +5,7 @@ use Rattle.grammar.specs.Sign.{Meaning}
 use Rattle.token.specs.Refusal.{zoom_outside, colour_long, styles_long}
 use Rattle.token.specs.Result.{Result, refusal, done, on_done, check, and_then, of_outcome}
 use Rattle.reader.specs.Signs.{within_limits}
-use Rattle.sign.specs.declared.Reading.{Reading}
-use Rattle.sign.specs.Reading.{reading_of}
+use Rattle.sign.specs.Reading.{Reading, reading_of}
 use Rattle.stylinggrammar.specs.Styling.{Spelling}
 use Rattle.stylinggrammar.specs.Meaning.{meaning, zooms_good, names_good, styles_few}
 use Rattle.stylinggrammar.specs.Record.{record_of}

@@ -1,5 +1,6 @@
 -- Document 02, Q-1: a record as the shortest styling string that reads as it.
-use Rattle.std.specs.Prelude.{ℕ, List, [], ◌∷◌, Bool, true, false, ◌&&◌, eqb, length}
+use Rattle.std.specs.Prelude.{ℕ, List, Bool, false, eqb, length}
+use Rattle.std.specs.Cmp.Lexicographic.{pointwise}
 use Rattle.format.specs.Places.{reading}
 use Rattle.token.specs.Refusal.{text_wrong}
 use Rattle.token.specs.Result.{Result, refusal, done, on_done, check, and_then, of_outcome}
@@ -13,10 +14,7 @@ unfoldable pub record_read : List ℕ → Result (List ℕ)
 record_read text = on_done (λ t. record_of (meaning t)) (and_then (of_outcome (length text) (reading 1 styling text)) styling_limits)
 
 abbrev pub same_numbers : List ℕ → List ℕ → Bool
-same_numbers [] [] = true
-same_numbers [] (b ∷ m) = false
-same_numbers (a ∷ l) [] = false
-same_numbers (a ∷ l) (b ∷ m) = eqb a b && same_numbers l m
+same_numbers = pointwise eqb
 
 abbrev pub is_record : List ℕ → Result (List ℕ) → Bool
 is_record w (refusal number place) = false

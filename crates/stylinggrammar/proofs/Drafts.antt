@@ -4,7 +4,7 @@ use mathlib.Core.List.{List, [], ◌∷◌, ◌++◌, append_assoc}
 use mathlib.Core.Option.{Option, none, some}
 use mathlib.Core.Path.{◌≡◌, refl, sym, ap, ◌∙◌}
 use lib.ListN.{length, set, get_or, take, drop, length-append, take-append-drop}
-use lib.Seq.{sets, length-take-le, take_at, drop_at, drop-drop, get_or-take}
+use lib.Seq.{sets, length-take-le, drop_at, drop-drop, get_or-take}
 use native.Mathlib.Omega.{arith}
 use Rattle.stylinggrammar.specs.Styling.{Detail, Decimal, Symbols, Spelling, styling}
 use Rattle.stylinggrammar.specs.Meaning.{Styling, meaning}

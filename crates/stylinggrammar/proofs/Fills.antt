@@ -11,7 +11,7 @@ use Rattle.format.specs.Format.{All, Any}
 use Rattle.format.specs.Numeral.{Range}
 use Rattle.format.proofs.Lists.{all_parts}
 use Rattle.stylinggrammar.specs.Styling.{Detail, Decimal, Symbols, Spelling, styling}
-use Rattle.stylinggrammar.specs.Meaning.{Style, given, present, cents, hundredths, colour_style, zoom_style, styles_of, meaning, Colour, ValidDetail, ValidStyle, Valid}
+use Rattle.stylinggrammar.specs.Meaning.{Style, given, present, cents, hundredths, colour_style, zoom_style, styles_of, meaning, Colour, ValidDetail, ValidStyle}
 use Rattle.stylinggrammar.specs.StylingLaws.{Accepted}
 use Rattle.stylinggrammar.proofs.Spellings.{meaning_valid}
 use Rattle.token.specs.Padded.{padded, zeros}

@@ -1,7 +1,7 @@
 -- The longest text of a styling.
 use Prim.Native.Nat.{ℕ, zero, suc, ◌+◌, ◌*◌, ◌/◌, ◌%◌, ◌≤◌}
 use mathlib.Core.List.{List, [], ◌∷◌, ◌++◌}
-use mathlib.Core.Path.{◌≡◌, refl}
+use mathlib.Core.Path.{refl}
 use mathlib.Core.Bool.{Bool, true, false}
 use mathlib.Core.Option.{Option, none, some}
 use lib.Dec.{eqb, ltb}
@@ -13,7 +13,7 @@ use Rattle.charset.proofs.Coding.{by_test}
 use Rattle.stylinggrammar.specs.Styling.{letter, hexadecimal, is_colour, colour, background, Detail, detail, Figures, decimal, two_digits, symbol_colours, symbol_zoom}
 use Rattle.stylinggrammar.specs.Meaning.{Style, coloured, zoomed, Styling, given, Colour, ValidDetail, ValidStyle, Ordered, Valid, whole_figures, cent_figures, decimal_of, colour_texts, zoom_texts, symbols_of, letter_if, spelled, styling_text}
 use Rattle.stylinggrammar.specs.StylingLaws.{LongestStyling}
-use Rattle.stylinggrammar.proofs.Zooms.{point, figure_length, zoom_length}
+use Rattle.stylinggrammar.proofs.Zooms.{point, zoom_length}
 use Rattle.stylinggrammar.proofs.Shortest.{zoom_text, symbols_text, zoom_style_length, styling_length}
 
 -- ZOOMS

@@ -9,7 +9,7 @@ use lib.Seq.{take-append_seam, take_all}
 use native.Mathlib.Omega.{arith}
 use borrow.Author.Tests.{ltb-true, ltb-false, le-ltb}
 use Rattle.format.specs.Format.{value, other, choose, many}
-use Rattle.format.specs.Places.{Begins, Formed, refused, ends_short, whole, Means}
+use Rattle.format.specs.Places.{Begins, Formed, refused, ends_short, Means}
 use Rattle.format.proofs.Unit.{unit_below}
 use Rattle.format.proofs.Begun.{absent_other}
 use Rattle.charset.specs.declared.Charset.{Charset}

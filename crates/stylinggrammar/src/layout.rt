@@ -28,6 +28,7 @@ pub const ROW_DETAIL: usize = 3;
 
 pub const ROW_FILL: usize = 28;
 
+// the kinds of a row, which are numbers of the record that C lends
 pub const COLOURED: u16 = 1;
 
 pub const ZOOMED: u16 = 2;
@@ -37,5 +38,9 @@ pub const MOST_LETTERS: usize = 24;
 pub const MOST_STYLES: u16 = 64;
 // how many symbol styles a draft has room for: few stylings have more
 pub const DRAFTED: u16 = 8;
+// the numbers of a draft, and of a record
+pub const DRAFT: usize = 504;
+
+pub const RECORD: usize = 3472;
 // the bytes of the longest text of a styling
 pub const LONGEST: usize = 3547;

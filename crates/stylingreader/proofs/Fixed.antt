@@ -17,8 +17,9 @@ use Rattle.format.proofs.Begun.{value_other}
 use Rattle.charset.specs.Bytes.{byte, after}
 use Rattle.charset.proofs.Units.{byte_delimited}
 use Rattle.charset.proofs.FixedByte.{Not, byte_absent, after_absent, after_at, after_begun}
+use Rattle.std.specs.Prelude.{Ok}
 use Rattle.token.specs.Token.{token_at}
-use Rattle.token.proofs.Told.{told_at, told_wrong, told_short}
+use Rattle.token.proofs.Told.{Told, told_at, told_wrong, told_short}
 use Rattle.token.proofs.Units.{byte_cut, byte_other, byte_within}
 use Rattle.stylingreader.specs.Parts.{stands_at}
 use Rattle.stylingreader.proofs.Marks.{Stands, stands_not}
@@ -27,20 +28,22 @@ use Rattle.stylingreader.proofs.Marks.{Stands, stands_not}
 abbrev pub missing_at : {A : Type 0} → List ℕ → ℕ → Located A
 missing_at s at = choose (ltb at (length s)) (wrong_at at) short_here
 
+-- a fixed byte, as a function reads it
+pub byte_told : (b : ℕ) (s : List ℕ) (at v : ℕ) → token_at (byte b) s at ≡ Ok v → Told 1 (byte b) s at v
+byte_told b = told_at 1 1 (byte b) (record { delimited = byte_delimited b; size = λ v ok. refl })
+
 module _ (s : List ℕ) (at b : ℕ) where
   pub byte_there : Stands s at b → locate (byte b) s at ≡ found b (at + 1)
-  byte_there q =
-      (told_at 1 1 (byte b) (record { delimited = byte_delimited b; size = λ v ok. refl }) s at b
-      (sym (byte_within (λ a. a) (λ a. a ∷ []) b b s at b q.inside (sym q.is) (omega arith) (omega arith)))).is
+  byte_there q = (byte_told b s at b (sym (byte_within (λ a. a) (λ a. a ∷ []) b b s at b q.inside (sym q.is) (omega arith) (omega arith)))).is
 
   byte_missing_go : (t : Bool) → ltb at (length s) ≡ t → stands_at s at b ≡ false → locate (byte b) s at ≡ choose t (wrong_at at) short_here
   unfolding token_at
   byte_missing_go true e n =
       let h : at < length s = ltb-true at (length s) e in
-      told_wrong (locate (byte b) s at) at (sym (byte_other b s at h λ z. stands_not s at b n (record { inside = h; is = z })))
-  byte_missing_go false e n = told_short (locate (byte b) s at) (sym (byte_cut (λ a. a) (λ a. a ∷ []) b b s at (ltb-false at (length s) e)))
+      told_wrong (length s) (locate (byte b) s at) at (sym (byte_other b s at h λ z. stands_not s at b n (record { inside = h; is = z })))
+  byte_missing_go false e n = told_short (length s) (length s) (locate (byte b) s at) (sym (byte_cut (λ a. a) (λ a. a ∷ []) b b s at (ltb-false at (length s) e)))
 
-  pub byte_missing : stands_at s at b ≡ false → locate (byte b) s at ≡ missing_at s at
+  byte_missing : stands_at s at b ≡ false → locate (byte b) s at ≡ missing_at s at
   byte_missing n = byte_missing_go (ltb at (length s)) refl n
 
   byte_reads : Stands s at b → (byte b).read (drop at s) ≡ value b (drop (at + 1) s)

@@ -7,15 +7,16 @@ use mathlib.Core.Option.{Option, none, some}
 use lib.Dec.{ltb, leb}
 use lib.ListN.{length, get_or, set, length-append}
 use native.Mathlib.Omega.{arith}
-use borrow.Author.Tests.{eq-eqb, ne_eqb, lt-ltb, le-ltb, le-leb, lt-leb, ltb-true, ltb-false, leb-true, leb-false}
+use borrow.Author.Tests.{ne_eqb, lt-ltb, le-ltb, le-leb, lt-leb, ltb-true, ltb-false, leb-true, leb-false}
 use Rattle.format.specs.Format.{Format, choose, many, optional, All}
 use Rattle.format.specs.Located.{Located, found, wrong_at, short_here, locate, and_then, on_found}
 use Rattle.format.proofs.Lists.{all_append}
-use Rattle.format.proofs.Loop.{Walk, walk_start, walk_on, walk_stop, walk_end}
+use Rattle.format.proofs.Loop.{Walk, walk_on, walk_stop, walk_end}
 use Rattle.format.proofs.Ends.{one_or_more, one_or_more_lem}
 use Rattle.format.proofs.Open.{delimited_open}
 use Rattle.charset.specs.Bytes.{digit_of, digit_byte, digit, after}
-use Rattle.token.specs.Refusal.{text_wrong, text_short}
+use Rattle.std.specs.Prelude.{Result as Answer, Ok, Err}
+use Rattle.token.specs.declared.refusal.Refusal.{Refusal}
 use Rattle.token.specs.Token.{token_at}
 use Rattle.token.proofs.Told.{told_at, told_wrong}
 use Rattle.token.proofs.Units.{byte_above, byte_within}
@@ -25,7 +26,7 @@ use Rattle.stylinggrammar.proofs.Tests.{among_range, among_true, false_true}
 use Rattle.stylinggrammar.proofs.Styling.{figure_delimited, figures_lawful}
 use Rattle.stylinggrammar.specs.Filling.{zoom_word}
 use Rattle.stylingreader.specs.declared.part.Part.{Part}
-use Rattle.stylingreader.specs.Parts.{PartIn, PartIs, failed_part, missing_part, stands_at}
+use Rattle.stylingreader.specs.Parts.{PartIn, PartIs, missing, stands_at}
 use Rattle.stylingreader.specs.Takings.{amount_of, with_digit, few_digits, take_figures, FiguresIn, figures_part, zoom_part, ZoomPut, take_zoom}
 use Rattle.stylingreader.proofs.Marks.{stands_so, stands_room}
 use Rattle.stylingreader.proofs.Fixed.{maybe_there, maybe_absent}
@@ -69,27 +70,10 @@ module _ (s : List ℕ) (i : ℕ) (h : i < length s) where
   digit_not : among 48 57 (get_or s i 0) ≡ false → locate (digit 0 9) s i ≡ wrong_at i
   unfolding token_at
   digit_not e =
-      told_wrong (locate (digit 0 9) s i) i
+      told_wrong (length s) (locate (digit 0 9) s i) i
       (sym (byte_above digit_of (λ d. digit_byte d ∷ []) 0 9 s i (digit_of (get_or s i 0)) h refl (omega arith) (digit_over (get_or s i 0) e)))
 
 -- WHAT DIGITS COME TO
-
-module _ (v n d : ℕ) where
-  pub digit_whole : (decimals : Bool) (r : ℕ) → decimals ≡ false → r ≡ min 100 (v * 10 + d) → r ≡ with_digit decimals v n d
-  unfolding with_digit
-  digit_whole decimals r e q = rw e q
-
-  pub digit_first : (decimals : Bool) → decimals ≡ true → n ≡ 0 → d * 10 ≡ with_digit decimals v n d
-  unfolding with_digit
-  digit_first decimals e z = rw (e, eq-eqb n 0 z)
-
-  pub digit_second : (decimals : Bool) → decimals ≡ true → (n ≡ 0 → ⊥) → n ≡ 1 → v + d ≡ with_digit decimals v n d
-  unfolding with_digit
-  digit_second decimals e z k = rw (e, ne_eqb n 0 z, eq-eqb n 1 k)
-
-  pub digit_later : (decimals : Bool) → decimals ≡ true → (n ≡ 0 → ⊥) → (n ≡ 1 → ⊥) → v ≡ with_digit decimals v n d
-  unfolding with_digit
-  digit_later decimals e z k = rw (e, ne_eqb n 0 z, ne_eqb n 1 k)
 
 onward_snoc : (n : ℕ) (l : List ℕ) (d : ℕ) → onward n (l ++ (d ∷ [])) ≡ onward n l * 10 + d
 onward_snoc n [] d = refl
@@ -108,24 +92,6 @@ amount_small true [] ok = omega arith
 amount_small true (a ∷ []) ok = omega (arith, ok.0)
 amount_small true (a ∷ b ∷ l) ok = omega (arith, ok.0, ok.1.0)
 
-pub few_decimals_lem : (decimals : Bool) (n : ℕ) → decimals ≡ true → leb n 2 ≡ few_digits decimals n
-unfolding few_digits
-few_decimals_lem decimals n e = rw e
-
-pub few_wholes : (decimals : Bool) (n : ℕ) → decimals ≡ false → true ≡ few_digits decimals n
-unfolding few_digits
-few_wholes decimals n e = rw e
-
-module _ (s : List ℕ) (at i v : ℕ) (decimals : Bool) where
-  pub no_figures : i ≤ at → (r : Part) → r ≡ missing_part s at → r ≡ figures_part s at i v decimals
-  unfolding figures_part
-  no_figures h r e = rw (le-ltb at i h) e
-
-  pub some_figures : at < i → (t : Bool) → t ≡ few_digits decimals (i - at)
-      → record { number = 0; place = i; zooms = t; names = true; amount = v } ≡ figures_part s at i v decimals
-  unfolding figures_part
-  some_figures h t e = rw (lt-ltb at i h, e)
-
 -- THE LOOP
 
 -- What the loop knows: these digits were read up to i, and what is left leads to the same whole.
@@ -137,28 +103,22 @@ pub record FiguresInv (decimals : Bool) (s : List ℕ) (at i v : ℕ) : Type 0 w
   pub digits : All (λ d. d ≤ 9) read
   pub small : v ≤ 100
 
-pub figures_start : (decimals : Bool) (s : List ℕ) (at : ℕ) → at ≤ length s → FiguresInv decimals s at at 0
-figures_start decimals s at h = record { read = []; walk = walk_start (digit 0 9) s at h; offset = omega arith; amount = go decimals; digits = tt; small = omega arith }
-  where
-    go : (t : Bool) → 0 ≡ amount_of t []
-    go true = refl
-    go false = refl
-
 module _ (decimals : Bool) (s : List ℕ) (at i v : ℕ) (k : FiguresInv decimals s at i v) where
-  module _ (h : i < length s) (t : Bool) (e : t ≡ among 48 57 (get_or s i 0)) where
-    pub figure_small : t ≡ true → (48 ≤ get_or s i 0) × (get_or s i 0 - 48 ≤ 9)
-    figure_small y = let r = among_range 48 57 (get_or s i 0) (sym e ∙ y) in (r.0, omega (arith, r.1))
+  module _ (h : i < length s) (t : among 48 57 (get_or s i 0) ≡ true) where
+    pub figure_small : (48 ≤ get_or s i 0) × (get_or s i 0 - 48 ≤ 9)
+    figure_small = let r = among_range 48 57 (get_or s i 0) t in (r.0, omega (arith, r.1))
 
-    pub figures_on : t ≡ true → (w : ℕ) → w ≡ with_digit decimals v (i - at) (get_or s i 0 - 48) → FiguresInv decimals s at (i + 1) w
-    figures_on y w q =
+    pub figures_on : (w n : ℕ) → n ≡ get_or s i 0 - 48 → w ≡ with_digit decimals v (i - at) n → FiguresInv decimals s at (i + 1) w
+    figures_on w n e y =
+        let q = y ∙ ap (with_digit decimals v (i - at)) e in
         let d = get_or s i 0 - 48 in
         let l = k.read in
         let z : w ≡ amount_of decimals (l ++ (d ∷ [])) =
         q ∙ (λ j. with_digit decimals (k.amount j) (i - at) d) ∙ ap (λ n. with_digit decimals (amount_of decimals l) n d) (omega (arith, k.offset)) ∙ with_more decimals l d in
-        let all = all_append (λ d. d ≤ 9) l (d ∷ []) k.digits ((figure_small y).1, tt) in
+        let all = all_append (λ d. d ≤ 9) l (d ∷ []) k.digits (figure_small.1, tt) in
         record {
           read = l ++ (d ∷ []);
-          walk = walk_on 1 (digit 0 9) figure_delimited s at i l k.walk d (i + 1) (digit_there s i h (sym e ∙ y));
+          walk = walk_on 1 (digit 0 9) figure_delimited s at i l k.walk d (i + 1) (digit_there s i h t);
           offset = omega (arith, k.offset, length-append l (d ∷ []));
           amount = z;
           digits = all;
@@ -176,18 +136,13 @@ module _ (decimals : Bool) (s : List ℕ) (at i v : ℕ) (k : FiguresInv decimal
       rw (le-ltb at i (omega arith), z) (missing_part_lem (take_figures decimals) s at [] [])
   end_go (a ∷ l) o q =
       rw (lt-ltb at i (omega arith))
-      (record { number = refl; place = refl; zooms = ap (few_digits decimals) (omega arith); names = refl; amount = q; holds = refl })
+      (record { place = refl; zooms = ap (few_digits decimals) (omega arith); names = refl; amount = q; holds = refl })
 
-  small_go : (t : Bool) → (choose {A = Part} t (record { number = 0; place = i; zooms = few_digits decimals (i - at); names = true; amount = v }) (missing_part s at)).amount ≤ 100
-  unfolding missing_part
-  small_go true = k.small
-  small_go false = go (ltb at (length s))
-    where
-      go : (t : Bool) → (choose {A = Part} t (failed_part text_wrong at) (failed_part text_short (length s))).amount ≤ 100
-      go true = omega arith
-      go false = omega arith
+  small_go : (t : Bool) (r : Part) → choose t (Ok (record { zooms = few_digits decimals (i - at); place = i; names = true; amount = v })) (Err (missing s at)) ≡ Ok r → r.amount ≤ 100
+  small_go true r e = let q : v ≡ r.amount = cc in let h = k.small in omega arith
+  small_go false r e = absurd (cc e)
 
-  figures_as : locate (many (digit 0 9)) s at ≡ found k.read i → (r : Part) → r ≡ figures_part s at i v decimals → FiguresIn decimals s at r
+  figures_as : locate (many (digit 0 9)) s at ≡ found k.read i → (r : Answer Part Refusal) → r ≡ figures_part s at i v decimals → FiguresIn decimals s at r
   unfolding figures_part
   figures_as e r q =
       rw q (record {
@@ -196,21 +151,15 @@ module _ (decimals : Bool) (s : List ℕ) (at i v : ℕ) (k : FiguresInv decimal
         small = small_go (ltb at i);
       })
 
-  pub figures_over : length s ≤ i → (r : Part) → r ≡ figures_part s at i v decimals → FiguresIn decimals s at r
-  figures_over h = figures_as (walk_end 1 (digit 0 9) figure_delimited s at i k.read k.walk h)
+  pub figures_over : length s ≤ i → (r : Answer Part Refusal) → r ≡ figures_part s at (length s) v decimals → FiguresIn decimals s at r
+  figures_over h r e =
+      let z : length s ≡ i = let x = k.walk.inside in omega arith in
+      figures_as (walk_end 1 (digit 0 9) figure_delimited s at i k.read k.walk h) r (e ∙ ap (λ i. figures_part s at i v decimals) z)
 
-  pub figures_stop : i < length s → (t : Bool) → t ≡ among 48 57 (get_or s i 0) → t ≡ false → (r : Part) → r ≡ figures_part s at i v decimals → FiguresIn decimals s at r
-  figures_stop h t e n = figures_as (walk_stop 1 (digit 0 9) figure_delimited s at i k.read k.walk (digit_not s i h (sym e ∙ n)))
+  pub figures_stop : i < length s → among 48 57 (get_or s i 0) ≡ false → (r : Answer Part Refusal) → r ≡ figures_part s at i v decimals → FiguresIn decimals s at r
+  figures_stop h n = figures_as (walk_stop 1 (digit 0 9) figure_delimited s at i k.read k.walk (digit_not s i h n))
 
 -- THE ZOOM
-
-pub zoom_put : (place i word : ℕ) (few t u : Bool) (o p : List ℕ) → p ≡ set o i word → t ≡ among 1 9999 word → u ≡ (few && t)
-    → ZoomPut place i word few (record { number = 0; place = place; zooms = u; names = true; amount = 0 }) o p
-unfolding zoom_part
-zoom_put place i word few t u o p h e q = record {
-  is = λ j. record { number = 0; place = place; zooms = (q ∙ ap (λ t. few && t) e) j; names = true; amount = 0 };
-  holds = h;
-}
 
 -- 100 or more is no zoom, whatever the decimals
 capped_go : (w c : ℕ) (t : Bool) → ltb w 100 ≡ t → among 1 9999 (min 100 w * 100 + c) ≡ among 1 9999 (w * 100 + c)
@@ -239,12 +188,11 @@ cents_few a l = go (leb (length l) 1) refl
 
 -- a zoom whose word and whether its decimals are few is known
 zoom_is : (s : List ℕ) (at i next : ℕ) (z : Decimal) → locate decimal s at ≡ found z next → (word : ℕ) (few : Bool) → word ≡ zoom_word z → few ≡ few_decimals z.1
-    → (c : Part) (o p : List ℕ) → ZoomPut next i word few c o p → PartIn decimal (take_zoom i) s at c o p
+    → (c : Part) (o p : List ℕ) → ZoomPut next i word few c o p → PartIn decimal (take_zoom i) s at (Ok c) o p
 unfolding zoom_part
 zoom_is s at i next z e word few x y c o p k =
-    part_as decimal (take_zoom i) s at (found z next) c o p e
+    part_as decimal (take_zoom i) s at (found z next) (Ok c) o p e
     (rw k.is (record {
-      number = refl;
       place = refl;
       zooms = (λ j. y j && among 1 9999 (x j)) ∙ ap (λ t. few_decimals z.1 && t) (capped (wholes z) (cents z.1));
       names = refl;
@@ -252,19 +200,19 @@ zoom_is s at i next z e word few x y c o p k =
       holds = k.holds ∙ ap (set o i) x;
     }))
 
-module _ (s : List ℕ) (at i : ℕ) (h : at ≤ length s) (r : Part) (x : FiguresIn false s at r) (o : List ℕ) where
+module _ (s : List ℕ) (at i : ℕ) (h : at ≤ length s) (o : List ℕ) where
   abbrev cents_after : Format (Option Figures)
   cents_after = optional (after 46 figures)
 
   decimal_is : locate decimal s at ≡ and_then (locate figures s at) λ a i. on_found {B = Decimal} (λ b. (a, b)) (locate cents_after s i)
   decimal_is = sequence_is figures (λ a. cents_after) figures_lawful s at h
 
-  pub zoom_fails : (r.number ≡ 0 → ⊥) → (p : List ℕ) → PartIn decimal (take_zoom i) s at r o p
-  zoom_fails n p = part_fails figures (take_figures false) at decimal (take_zoom i) (λ a i. on_found {B = Decimal} (λ b. (a, b)) (locate cents_after s i)) s at r [] [] o p decimal_is n x.part
+  pub zoom_fails : (e : Refusal) → FiguresIn false s at (Err e) → (p : List ℕ) → PartIn decimal (take_zoom i) s at (Err e) o p
+  zoom_fails e x p = part_fails figures (take_figures false) at decimal (take_zoom i) (λ a i. on_found {B = Decimal} (λ b. (a, b)) (locate cents_after s i)) s at e [] [] o p decimal_is x.part
 
-  module _ (z : r.number ≡ 0) where
+  module _ (r : Part) (x : FiguresIn false s at (Ok r)) where
     whole : Taken figures (take_figures false) s at r [] []
-    whole = taken figures (take_figures false) s at r [] [] figures_lawful h z x.part
+    whole = taken figures (take_figures false) s at r [] [] figures_lawful h x.part
 
     after-whole : locate decimal s at ≡ on_found {B = Decimal} (λ b. (whole.value, b)) (locate cents_after s r.place)
     after-whole = decimal_is ∙ ap (λ l. and_then l λ a i. on_found {B = Decimal} (λ b. (a, b)) (locate cents_after s i)) whole.is
@@ -273,13 +221,13 @@ module _ (s : List ℕ) (at i : ℕ) (h : at ≤ length s) (r : Part) (x : Figur
     whole_is = whole.took.amount ∙ whole_amount whole.value
 
     module _ (t : Bool) (e : t ≡ stands_at s r.place 46) where
-      pub zoom-whole : t ≡ false → (c : Part) (p : List ℕ) → ZoomPut r.place i (r.amount * 100) true c o p → PartIn decimal (take_zoom i) s at c o p
+      pub zoom-whole : t ≡ false → (c : Part) (p : List ℕ) → ZoomPut r.place i (r.amount * 100) true c o p → PartIn decimal (take_zoom i) s at (Ok c) o p
       zoom-whole n c p k =
           zoom_is s at i r.place (whole.value, none)
           (after-whole ∙ ap (on_found {B = Decimal} (λ b. (whole.value, b))) (maybe_absent 46 s r.place figures whole.got.room (sym e ∙ n)))
           (r.amount * 100) true (omega (arith, whole_is)) refl c o p k
 
-      module _ (y : t ≡ true) (d : Part) (u : FiguresIn true s (r.place + 1) d) where
+      module _ (y : t ≡ true) where
         pointed : locate decimal s at ≡ on_found {B = Decimal} (λ b. (whole.value, b)) (on_found some (locate figures s (r.place + 1)))
         pointed = after-whole ∙ ap (on_found {B = Decimal} (λ b. (whole.value, b))) (maybe_there 46 s r.place figures (stands_so s r.place 46 (sym e ∙ y)))
 
@@ -288,15 +236,16 @@ module _ (s : List ℕ) (at i : ℕ) (h : at ≤ length s) (r : Part) (x : Figur
         pointed-go (wrong_at q) = refl
         pointed-go short_here = refl
 
-        pub cents-fail : (d.number ≡ 0 → ⊥) → (p : List ℕ) → PartIn decimal (take_zoom i) s at d o p
-        cents-fail n p =
-            part_fails figures (take_figures true) (r.place + 1) decimal (take_zoom i) (λ f j. found (whole.value, some f) j) s at d [] [] o p
-            (pointed ∙ pointed-go (locate figures s (r.place + 1))) n u.part
+        pub cents-fail : (n : Refusal) → FiguresIn true s (r.place + 1) (Err n) → (p : List ℕ) → PartIn decimal (take_zoom i) s at (Err n) o p
+        cents-fail n u p =
+            part_fails figures (take_figures true) (r.place + 1) decimal (take_zoom i) (λ f j. found (whole.value, some f) j) s at n [] [] o p
+            (pointed ∙ pointed-go (locate figures s (r.place + 1))) u.part
 
-        pub zoom-cents : d.number ≡ 0 → (c : Part) (p : List ℕ) → ZoomPut d.place i (r.amount * 100 + d.amount) d.zooms c o p → PartIn decimal (take_zoom i) s at c o p
-        zoom-cents w c p k =
+        pub zoom-cents : (d : Part) → FiguresIn true s (r.place + 1) (Ok d) → (c : Part) (p : List ℕ) → ZoomPut d.place i (r.amount * 100 + d.amount) d.zooms c o p
+            → PartIn decimal (take_zoom i) s at (Ok c) o p
+        zoom-cents d u c p k =
             let room : r.place + 1 ≤ length s = stands_room s r.place 46 t e y in
-            let v = taken figures (take_figures true) s (r.place + 1) d [] [] figures_lawful room w u.part in
+            let v = taken figures (take_figures true) s (r.place + 1) d [] [] figures_lawful room u.part in
             let f = v.value in
             let amounts : d.amount ≡ cents (some f) = v.took.amount ∙ cents_amount f.0 f.1 in
             zoom_is s at i d.place (whole.value, some f)

@@ -1,9 +1,12 @@
 -- What reading a part of a styling string answers, and what it puts into lent memory.
-use Rattle.std.specs.Prelude.{ℕ, ◌+◌, ◌≡◌, List, Bool, true, false, ◌&&◌, eqb, ltb, length, get_or}
+use Rattle.std.specs.Prelude.{Result as Answer, Ok, Err, ℕ, ◌+◌, ◌≡◌, List, Bool, true, ◌&&◌, eqb, ltb, length, get_or}
 use Rattle.std.proofs.Math.Option.{Option, none, some}
 use Rattle.format.specs.Format.{Format, choose}
 use Rattle.format.specs.Located.{Located, found, wrong_at, short_here, locate}
-use Rattle.token.specs.Refusal.{text_wrong, text_short}
+use Rattle.charset.specs.Bytes.{byte}
+use Rattle.token.specs.declared.refusal.Refusal.{Refusal}
+use Rattle.token.specs.declared.refusal.Refusal.TheVariants.{TextWrong, TextShort}
+use Rattle.token.specs.Token.{token_at}
 use Rattle.stylinggrammar.specs.Meaning.{if_any}
 use Rattle.stylinggrammar.specs.Filling.{put_maybe}
 use Rattle.stylingreader.specs.declared.part.Part.{Part}
@@ -22,24 +25,20 @@ plain put = record { zooms = λ a. true; names = λ a. true; amount = λ a. 0; p
 
 -- a value was read, and the memory o became p
 pub record Took {A : Type 0} (k : Taking A) (a : A) (next : ℕ) (r : Part) (o p : List ℕ) : Type 0 where
-  pub number : r.number ≡ 0
   pub place : r.place ≡ next
   pub zooms : r.zooms ≡ k.zooms a
   pub names : r.names ≡ k.names a
   pub amount : r.amount ≡ k.amount a
   pub holds : p ≡ k.put a o
 
-pub record Failed (n q : ℕ) (r : Part) : Type 0 where
-  pub number : r.number ≡ n
-  pub place : r.place ≡ q
-
 -- what is located in a text of size bytes; where it fails, nothing is said of the memory
-abbrev pub PartIs : {A : Type 0} → ℕ → Taking A → Located A → Part → List ℕ → List ℕ → Type 0
-PartIs size k (found a next) r o p = Took k a next r o p
-PartIs size k (wrong_at q) r o p = Failed text_wrong q r
-PartIs size k short_here r o p = Failed text_short size r
+abbrev pub PartIs : {A : Type 0} → ℕ → Taking A → Located A → Answer Part Refusal → List ℕ → List ℕ → Type 0
+PartIs size k (found a next) (Ok r) o p = Took k a next r o p
+PartIs size k (found a next) (Err e) o p = ⊥
+PartIs size k (wrong_at q) r o p = r ≡ Err (TextWrong q)
+PartIs size k short_here r o p = r ≡ Err (TextShort size)
 
-pub record PartIn {A : Type 0} (f : Format A) (k : Taking A) (s : List ℕ) (at : ℕ) (r : Part) (o p : List ℕ) : Type 0 where
+pub record PartIn {A : Type 0} (f : Format A) (k : Taking A) (s : List ℕ) (at : ℕ) (r : Answer Part Refusal) (o p : List ℕ) : Type 0 where
   pub is : PartIs (length s) k (locate f s at) r o p
 
 -- TWO PARTS, and a part that may be absent
@@ -60,28 +59,24 @@ abbrev pub perhaps : {A : Type 0} → Taking A → Taking (Option A)
 perhaps k = record { zooms = if_any k.zooms; names = if_any k.names; amount = amount_or 0 k.amount; put = put_maybe k.put }
 
 abbrev pub joined_part : Part → Part → Part
-joined_part a b = record { number = b.number; place = b.place; zooms = a.zooms && b.zooms; names = a.names && b.names; amount = b.amount }
+joined_part a b = record { zooms = a.zooms && b.zooms; place = b.place; names = a.names && b.names; amount = b.amount }
 
 -- FIXED BYTES
 
 unfoldable pub stands_at : List ℕ → ℕ → ℕ → Bool
 stands_at s at b = ltb at (length s) && eqb (get_or s at 0) b
 
-abbrev pub failed_part : ℕ → ℕ → Part
-failed_part number place = record { number = number; place = place; zooms = false; names = false; amount = 0 }
-
 abbrev pub passed_part : ℕ → ℕ → Part
-passed_part place amount = record { number = 0; place = place; zooms = true; names = true; amount = amount }
+passed_part place amount = record { zooms = true; place = place; names = true; amount = amount }
 
 -- where what has to stand is missing
-unfoldable pub missing_part : List ℕ → ℕ → Part
-missing_part s at = choose (ltb at (length s)) (failed_part text_wrong at) (failed_part text_short (length s))
+unfoldable pub missing : List ℕ → ℕ → Refusal
+missing s at = choose (ltb at (length s)) (TextWrong at) (TextShort (length s))
 
 -- a part that has to end in a byte
-unfoldable pub closed_part : List ℕ → Part → ℕ → Part
-closed_part s a b =
-    choose (eqb a.number 0)
-    (choose (stands_at s a.place b)
-    (record { number = 0; place = a.place + 1; zooms = a.zooms; names = a.names; amount = a.amount })
-    (missing_part s a.place))
-    a
+abbrev pub closed_by : Part → Answer ℕ Refusal → Answer Part Refusal
+closed_by a (Ok b) = Ok (record { zooms = a.zooms; place = a.place + 1; names = a.names; amount = a.amount })
+closed_by a (Err e) = Err e
+
+abbrev pub closed_part : List ℕ → Part → ℕ → Answer Part Refusal
+closed_part s a b = closed_by a (token_at (byte b) s a.place)

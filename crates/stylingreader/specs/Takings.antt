@@ -1,15 +1,16 @@
 -- What is asked of each part of a styling string, and what it puts into a record.
-use Rattle.std.specs.Prelude.{ℕ, ◌+◌, ◌-◌, ◌*◌, ◌≤◌, min, ◌≡◌, List, [], ◌∷◌, Bool, true, false, ◌&&◌, ◌||◌, eqb, ltb, leb, length, set}
+use Rattle.std.specs.Prelude.{Result as Answer, Ok, Err, ℕ, ◌+◌, ◌-◌, ◌*◌, ◌≤◌, min, ◌≡◌, List, [], ◌∷◌, Bool, true, false, ◌&&◌, ◌||◌, eqb, ltb, leb, length, set}
 use Prim.Native.Char.{code}
 use Rattle.std.proofs.Math.Option.{Option, none, some}
 use Rattle.format.specs.Format.{Format, choose, sequence, optional, many, every}
 use Rattle.charset.specs.Bytes.{byte, after}
+use Rattle.token.specs.declared.refusal.Refusal.{Refusal}
 use Rattle.stylinggrammar.specs.Styling.{among, colour, background, Detail, detail, Figures, figures, Decimal, decimal, two_digits, Symbols, Parts, Spelling}
 use Rattle.stylinggrammar.specs.Meaning.{onward, if_any, short_name, short_detail, good_zoom, zooms_good, names_good}
 use Rattle.stylinggrammar.specs.Record.{detail_count}
 use Rattle.stylinggrammar.specs.Filling.{put_maybe, put_colour, put_detail, zoom_word, row_of, put_rows, put_symbols, put_styling}
 use Rattle.stylingreader.specs.declared.part.Part.{Part}
-use Rattle.stylingreader.specs.Parts.{Taking, plain, PartIn, both, amount_or, perhaps, missing_part}
+use Rattle.stylingreader.specs.Parts.{Taking, plain, PartIn, both, amount_or, perhaps, missing}
 
 -- COLOURS
 
@@ -25,11 +26,11 @@ unfoldable pub kept_byte : List ℕ → ℕ → ℕ → ℕ → List ℕ
 kept_byte o at n b = choose (ltb n 24) (set o (at + 1 + n) b) o
 
 -- a colour of n bytes that ends at an offset
-unfoldable pub colour_part : List ℕ → ℕ → ℕ → Bool → Bool → Part
+unfoldable pub colour_part : List ℕ → ℕ → ℕ → Bool → Bool → Answer Part Refusal
 colour_part s i n letters hexadecimal =
-    choose (is_whole letters hexadecimal n) (record { number = 0; place = i; zooms = true; names = leb n 24; amount = 0 }) (missing_part s i)
+    choose (is_whole letters hexadecimal n) (Ok (record { zooms = true; place = i; names = leb n 24; amount = 0 })) (Err (missing s i))
 
-pub record ColourEnds (s : List ℕ) (i at n : ℕ) (letters hexadecimal : Bool) (r : Part) (o p : List ℕ) : Type 0 where
+pub record ColourEnds (s : List ℕ) (i at n : ℕ) (letters hexadecimal : Bool) (r : Answer Part Refusal) (o p : List ℕ) : Type 0 where
   pub is : r ≡ colour_part s i n letters hexadecimal
   pub holds : p ≡ set o at (min 25 n)
 
@@ -76,17 +77,17 @@ take_figures decimals = record {
   put = λ f o. o;
 }
 
-pub record FiguresIn (decimals : Bool) (s : List ℕ) (at : ℕ) (r : Part) : Type 0 where
+pub record FiguresIn (decimals : Bool) (s : List ℕ) (at : ℕ) (r : Answer Part Refusal) : Type 0 where
   pub part : PartIn figures (take_figures decimals) s at r [] []
-  pub small : r.amount ≤ 100
+  pub small : (v : Part) → r ≡ Ok v → v.amount ≤ 100
 
 -- digits from an offset up to another
-unfoldable pub figures_part : List ℕ → ℕ → ℕ → ℕ → Bool → Part
+unfoldable pub figures_part : List ℕ → ℕ → ℕ → ℕ → Bool → Answer Part Refusal
 figures_part s at i v decimals =
-    choose (ltb at i) (record { number = 0; place = i; zooms = few_digits decimals (i - at); names = true; amount = v }) (missing_part s at)
+    choose (ltb at i) (Ok (record { zooms = few_digits decimals (i - at); place = i; names = true; amount = v })) (Err (missing s at))
 
 unfoldable pub zoom_part : ℕ → ℕ → Bool → Part
-zoom_part place word few = record { number = 0; place = place; zooms = few && among 1 9999 word; names = true; amount = 0 }
+zoom_part place word few = record { zooms = few && among 1 9999 word; place = place; names = true; amount = 0 }
 
 pub record ZoomPut (place i word : ℕ) (few : Bool) (r : Part) (o p : List ℕ) : Type 0 where
   pub is : r ≡ zoom_part place word few
@@ -101,16 +102,10 @@ take_zoom i = record { zooms = good_zoom; names = λ z. true; amount = λ z. 0; 
 abbrev pub take_number : ℕ → ℕ → Taking ℕ
 take_number i more = plain λ n o. set o i (more + n)
 
--- what follows the letter of a symbol style
-abbrev pub colouring : Format (ℕ × Detail)
-colouring = sequence two_digits λ n. detail
-
 abbrev pub of_zoom : Format Decimal
 of_zoom = after (code ",") decimal
 
-abbrev pub zooming : Format (ℕ × Decimal)
-zooming = sequence two_digits λ n. of_zoom
-
+-- a symbol style: its kind, the symbol's number, and what it says, in a row
 abbrev pub take_colouring : ℕ → Taking (ℕ × Detail)
 take_colouring row = record {
   zooms = λ p. true;
@@ -127,23 +122,30 @@ take_zooming row = record {
   put = λ p o. set (set (set o row 2) (row + 1) p.0) (row + 2) (zoom_word p.1);
 }
 
--- the two kinds of symbol styles: the letter, what follows it, and how it is taken into a row
+-- the two kinds of symbol styles: the letter, the number of the kind, what follows the symbol's number, and how that and the whole are
+-- taken into a row
 pub record Kind : Type 1 where
   pub Says : Type 0
   pub letter : ℕ
-  pub style : Format Says
-  pub take : ℕ → Taking Says
+  pub number : ℕ
+  pub says : Format Says
+  pub taken : ℕ → Taking Says
+  pub take : ℕ → Taking (ℕ × Says)
 
 abbrev pub kind : Bool → Kind
-kind false = record { Says = ℕ × Detail; letter = code "D"; style = colouring; take = take_colouring }
-kind true = record { Says = ℕ × Decimal; letter = code "Z"; style = zooming; take = take_zooming }
+kind false = record { Says = Detail; letter = code "D"; number = 1; says = detail; taken = λ row. take_detail (row + 3); take = take_colouring }
+kind true = record { Says = Decimal; letter = code "Z"; number = 2; says = of_zoom; taken = λ row. take_zoom (row + 2); take = take_zooming }
 
-abbrev pub styles : (zoomed : Bool) → Format (List (kind zoomed).Says)
-styles zoomed = many (after (kind zoomed).letter (kind zoomed).style)
+-- what follows the letter
+abbrev pub style : (zoomed : Bool) → Format (ℕ × (kind zoomed).Says)
+style zoomed = sequence two_digits λ n. (kind zoomed).says
+
+abbrev pub styles : (zoomed : Bool) → Format (List (ℕ × (kind zoomed).Says))
+styles zoomed = many (after (kind zoomed).letter (style zoomed))
 
 -- styles of which the first has number k; the amount is how many there are with the k before them, or 65. What is within the limits
 -- does not depend on the row.
-abbrev pub take_styles : (zoomed : Bool) → ℕ → Taking (List (kind zoomed).Says)
+abbrev pub take_styles : (zoomed : Bool) → ℕ → Taking (List (ℕ × (kind zoomed).Says))
 take_styles zoomed k = record {
   zooms = every ((kind zoomed).take 0).zooms;
   names = every ((kind zoomed).take 0).names;

@@ -1,199 +1,146 @@
 // Reading a colour, and the detail colours.
-ghost use Rattle.std.specs.Prelude.{◌≡◌, ◌||◌, ◌+◌, ◌≤◌, min, eqb, length};
-ghost use Rattle.stylinggrammar.specs.Styling.{among, letter, hexadecimal, colour, background, line_and_fill, detail};
+ghost use Rattle.std.specs.Prelude.{◌≡◌, ◌&&◌, ◌+◌, ◌≤◌, length};
+ghost use Rattle.stylinggrammar.specs.Styling.{letter, hexadecimal, colour, background, line_and_fill, detail};
 ghost use Rattle.stylingreader.specs.Parts.{PartIn};
 ghost use Rattle.stylingreader.specs.Takings.{goes_on, is_whole, kept_byte, ColourEnds, fill, take_colour, take_fill, take_detail};
 
-use super::part::Part;
+use super::part::{Part, missing, put, stands};
 use stylinggrammar::layout::{COLOUR, MOST_LETTERS};
-use token::refusal::DONE;
+use token::reading::byte_at;
+use token::refusal::Refusal;
 
-pub fn is_among(lo: u8, hi: u8, b: u8) -> bool
-    ensures { result ≡ among lo hi b }
-{
-    if b < lo {
-        return false;
-    }
-    b <= hi
+// Whether some bytes all are letters, and whether they all are hexadecimal digits.
+#[derive(Clone, Copy)]
+struct Classes {
+    letters: bool,
+    hexadecimal: bool,
 }
 
-fn is_letter(b: u8) -> bool
-    ensures { result ≡ letter b }
-{
-    if is_among(b'A', b'Z', b) {
-        return true;
+impl Classes {
+    // With a byte more. Both tests are made, so that the compiler needs no branch.
+    #[tactic(auto, using(crate::proofs::Colours::letter_is, crate::proofs::Colours::hexadecimal_is))]
+    fn with(self, b: u8) -> Classes
+        ensures letters { result.letters ≡ (self.letters && letter b) }
+        ensures hexadecimal { result.hexadecimal ≡ (self.hexadecimal && hexadecimal b) }
+    {
+        Classes {
+            letters: self.letters & b.is_ascii_alphabetic(),
+            hexadecimal: self.hexadecimal & b.is_ascii_hexdigit(),
+        }
     }
-    is_among(b'a', b'z', b)
-}
 
-// By itself, so that the compiler tests both cases at once, without a branch.
-fn is_hexadecimal_letter(b: u8) -> bool
-    ensures { result ≡ (among 65 70 b || among 97 102 b) }
-{
-    if is_among(b'A', b'F', b) {
-        return true;
+    // Whether n bytes begin a colour.
+    fn begins(self, n: usize) -> bool
+        ensures { result ≡ goes_on self.letters self.hexadecimal n }
+    {
+        self.letters || self.hexadecimal && n <= 6
     }
-    is_among(b'a', b'f', b)
-}
 
-fn is_hexadecimal(b: u8) -> bool
-    ensures { result ≡ hexadecimal b }
-{
-    if is_among(b'0', b'9', b) {
-        return true;
+    // Whether n bytes are a colour.
+    #[tactic(auto, unfolding(crate::specs::Takings::is_whole))]
+    fn is_whole(self, n: usize) -> bool
+        ensures { result ≡ is_whole self.letters self.hexadecimal n }
+    {
+        self.letters && 1 <= n || self.hexadecimal && (n == 3 || n == 6)
     }
-    is_hexadecimal_letter(b)
-}
-
-// Whether n bytes begin a colour, by whether they all are letters or hexadecimal digits.
-fn begins(letters: bool, hexadecimal: bool, n: usize) -> bool
-    ensures { result ≡ goes_on letters hexadecimal n }
-{
-    if letters {
-        return true;
-    }
-    if hexadecimal {
-        return n <= 6;
-    }
-    false
-}
-
-fn is_three_or_six(n: usize) -> bool
-    ensures { result ≡ (eqb n 3 || eqb n 6) }
-{
-    if n == 3 {
-        return true;
-    }
-    n == 6
-}
-
-// Whether n bytes are a colour.
-fn is_whole(letters: bool, hexadecimal: bool, n: usize) -> bool
-    ensures { result ≡ is_whole letters hexadecimal n }
-{
-    if super::part::and(letters, 1 <= n) {
-        return true;
-    }
-    super::part::and(hexadecimal, is_three_or_six(n))
 }
 
 // Byte n of a colour that is put at an offset of the memory.
+#[tactic(auto, unfolding(crate::specs::Takings::kept_byte))]
 fn keep_byte(to: &mut [u16], base: usize, n: usize, b: u8)
     requires { base ≤ 65535 }
     ensures { to.new ≡ kept_byte to.old base n b }
 {
     if n < MOST_LETTERS {
-        super::part::put(to, base + 1 + n, b as u16);
+        put(to, base + 1 + n, u16::from(b));
     }
 }
 
-fn at_most_25(n: usize) -> u16
-    ensures { result ≡ min 25 n }
-{
-    if n < 25 {
-        return n as u16;
-    }
-    25
-}
-
-// The end of a colour of n bytes at an offset: its length is put before its bytes.
+// The end of a colour of n bytes at an offset: its length is put before its bytes, as 25 where it is longer. `as`, since 25 fits.
+#[tactic(auto, unfolding(crate::specs::Takings::colour_part))]
 fn colour_end(
     s: &[u8],
     i: usize,
     to: &mut [u16],
     base: usize,
     n: usize,
-    letters: bool,
-    hexadecimal: bool,
-) -> Part
-    ensures { ColourEnds s.now i base n letters hexadecimal result to.old to.new }
+    classes: Classes,
+) -> Result<Part, Refusal>
+    ensures { ColourEnds s.now i base n classes.letters classes.hexadecimal result to.old to.new }
 {
-    super::part::put(to, base, at_most_25(n));
-    if !is_whole(letters, hexadecimal, n) {
-        return super::part::missing(s, i);
+    put(to, base, n.min(25) as u16);
+    if !classes.is_whole(n) {
+        return Err(missing(s, i));
     }
-    Part {
-        number: DONE,
-        place: i,
+    Ok(Part {
         zooms: true,
+        place: i,
         names: n <= MOST_LETTERS,
         amount: 0,
-    }
+    })
 }
 
 // A colour: as many bytes as begin one.
-pub fn colour_at(s: &[u8], at: usize, to: &mut [u16], base: usize) -> Part
+pub fn colour_at(s: &[u8], at: usize, to: &mut [u16], base: usize) -> Result<Part, Refusal>
     requires { (at ≤ length s.now) × (base ≤ 65535) }
     ensures { PartIn colour (take_colour base) s.now at result to.old to.new }
 {
-    let mut letters = true;
-    let mut hexadecimal = true;
-    let mut i = at;
-    while i < s.len() {
-        let b = s[i];
-        let all_letters = super::part::and(letters, is_letter(b));
-        let all_hexadecimal = super::part::and(hexadecimal, is_hexadecimal(b));
-        if !begins(all_letters, all_hexadecimal, i - at + 1) {
-            return colour_end(s, i, to, base, i - at, letters, hexadecimal);
+    let mut classes = Classes {
+        letters: true,
+        hexadecimal: true,
+    };
+    for i in at..s.len() {
+        let more = classes.with(s[i]);
+        if !more.begins(i - at + 1) {
+            return colour_end(s, i, to, base, i - at, classes);
         }
-        keep_byte(to, base, i - at, b);
-        letters = all_letters;
-        hexadecimal = all_hexadecimal;
-        i += 1;
+        keep_byte(to, base, i - at, s[i]);
+        classes = more;
     }
-    colour_end(s, i, to, base, i - at, letters, hexadecimal)
+    colour_end(s, s.len(), to, base, s.len() - at, classes)
 }
 
 // A fill colour after a comma, if there is one.
-fn fill_at(s: &[u8], at: usize, to: &mut [u16], base: usize) -> Part
+fn fill_at(s: &[u8], at: usize, to: &mut [u16], base: usize) -> Result<Part, Refusal>
     requires { (at ≤ length s.now) × (base ≤ 65535) }
     ensures { PartIn fill (take_fill base) s.now at result to.old to.new }
 {
-    if !super::part::stands(s, at, b',') {
-        return super::part::passed(at, 1);
+    if !stands(s, at, b',') {
+        return Ok(Part::passed(at, 1));
     }
-    let second = colour_at(s, at + 1, to, base);
-    Part {
-        number: second.number,
-        place: second.place,
-        zooms: second.zooms,
-        names: second.names,
+    let second = colour_at(s, at + 1, to, base)?;
+    Ok(Part {
         amount: 2,
-    }
+        ..second
+    })
 }
 
-fn line_and_fill_at(s: &[u8], at: usize, to: &mut [u16], base: usize) -> Part
+fn line_and_fill_at(s: &[u8], at: usize, to: &mut [u16], base: usize) -> Result<Part, Refusal>
     requires { (at ≤ length s.now) × (base + 25 ≤ 65535) }
     ensures { PartIn line_and_fill (take_detail base) s.now at result to.old to.new }
 {
-    let line = colour_at(s, at, to, base);
-    if line.number != DONE {
-        return line;
-    }
-    let second = fill_at(s, line.place, to, base + COLOUR);
-    super::part::joined(line, second)
+    let line = colour_at(s, at, to, base)?;
+    let second = fill_at(s, line.place, to, base + COLOUR)?;
+    Ok(line.joined(second))
 }
 
-// A line colour and perhaps a fill colour, between underscores.
-pub fn detail_at(s: &[u8], at: usize, to: &mut [u16], base: usize) -> Part
+// A line colour and perhaps a fill colour, between underscores. This and the next are two functions: a closure for what stands between
+// writes into the memory, and would need clauses of its own.
+pub fn detail_at(s: &[u8], at: usize, to: &mut [u16], base: usize) -> Result<Part, Refusal>
     requires { (at ≤ length s.now) × (base + 25 ≤ 65535) }
     ensures { PartIn detail (take_detail base) s.now at result to.old to.new }
 {
-    if !super::part::stands(s, at, b'_') {
-        return super::part::missing(s, at);
-    }
-    let colours = line_and_fill_at(s, at + 1, to, base);
-    super::part::closed(s, colours, b'_')
+    byte_at(s, at, b'_')?;
+    let colours = line_and_fill_at(s, at + 1, to, base)?;
+    colours.closed(s, b'_')
 }
 
 // The background colour, between underscores.
-pub fn background_at(s: &[u8], at: usize, to: &mut [u16], base: usize) -> Part
+pub fn background_at(s: &[u8], at: usize, to: &mut [u16], base: usize) -> Result<Part, Refusal>
     requires { (at ≤ length s.now) × (base ≤ 65535) }
     ensures { PartIn background (take_colour base) s.now at result to.old to.new }
 {
-    if !super::part::stands(s, at, b'_') {
-        return super::part::missing(s, at);
-    }
-    let one = colour_at(s, at + 1, to, base);
-    super::part::closed(s, one, b'_')
+    byte_at(s, at, b'_')?;
+    let one = colour_at(s, at + 1, to, base)?;
+    one.closed(s, b'_')
 }

@@ -1,4 +1,2 @@
-pub mod FigureWrites
-pub mod ColourWrites
 pub mod StyleWrites
 pub mod PieceWrites

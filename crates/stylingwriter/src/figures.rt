@@ -1,28 +1,11 @@
 // Numbers in decimal digits: each function puts one at an offset and returns the offset after it.
 ghost use Rattle.std.specs.Prelude.{◌+◌, ◌≤◌, ◌<◌, length};
-ghost use Rattle.charset.specs.Bytes.{digit};
 ghost use Rattle.token.specs.Wrote.{Wrote};
-ghost use Rattle.stylinggrammar.specs.Styling.{two_digits, figures, decimal};
+ghost use Rattle.stylinggrammar.specs.Styling.{figures, decimal};
 ghost use Rattle.stylinggrammar.specs.Meaning.{whole_figures, decimal_of};
 ghost use Rattle.stylingwriter.specs.Pieces.{cents_text};
 
-use writer::tokens::put_byte;
-
-fn put_digit(out: &mut [u8], at: usize, d: u16) -> usize
-    requires { (at < length out.old) × (d < 10) }
-    ensures { Wrote out.old out.new at result ((digit 0 9).write d) }
-{
-    put_byte(out, at, (48 + d) as u8)
-}
-
-// A number of 0 to 99 in two digits.
-pub fn put_two_digits(out: &mut [u8], at: usize, n: u16) -> usize
-    requires { (at + 2 ≤ length out.old) × (n < 100) }
-    ensures { Wrote out.old out.new at result (two_digits.write n) }
-{
-    let next = put_digit(out, at, n / 10);
-    put_digit(out, next, n % 10)
-}
+use writer::tokens::{put_byte, put_digit, put_two};
 
 // A number of 0 to 99 in one digit or two.
 fn put_wholes(out: &mut [u8], at: usize, n: u16) -> usize
@@ -33,7 +16,7 @@ fn put_wholes(out: &mut [u8], at: usize, n: u16) -> usize
     if n < 10 {
         return put_digit(out, at, n);
     }
-    put_two_digits(out, at, n)
+    put_two(out, at, 10, n)
 }
 
 // The point and the decimals of n hundredths, as few as there must be.

@@ -2,4 +2,6 @@
 #![tactic(auto)]
 
 mod figures;
+mod parts;
+mod record;
 pub mod writing;

@@ -1,203 +1,200 @@
-// Writing the styling in a record as its shortest text. Numbers that no styling has are brought into range, so that any record
-// gives some text: whether it is the record's own is found by reading it.
-ghost use Rattle.std.specs.Prelude.{◌≡◌, [], ◌∷◌, map, ◌+◌, ◌*◌, ◌%◌, ◌≤◌, min, length, take, drop};
-ghost use Rattle.std.proofs.Math.Option.{none, some};
-ghost use Rattle.format.specs.Format.{choose};
+// Writing the styling in a record as its shortest text. Any record gives some text: whether it is the record's own is found by
+// reading it.
+ghost use Rattle.std.specs.Prelude.{◌≡◌, ℕ, List, ◌+◌, ◌≤◌, length};
+ghost use Rattle.std.specs.List.{flat_map, sum_by};
 ghost use Rattle.token.specs.Wrote.{Wrote};
-ghost use Rattle.stylinggrammar.specs.Styling.{detail};
-ghost use Rattle.stylinggrammar.specs.Meaning.{colour_texts, zoom_texts, styling_text};
-ghost use Rattle.stylinggrammar.specs.Record.{colour_at, style_at, styles_from, styling_in};
-ghost use Rattle.stylingwriter.specs.Pieces.{colorize_text, padding_text, background_text, detail_text, zoom_text, symbols_text, colours_text, zooms_text};
+ghost use Rattle.stylinggrammar.specs.Styling.{background, detail, decimal, two_digits};
+ghost use Rattle.stylinggrammar.specs.Meaning.{Style as Styled, decimal_of, styling_text};
+ghost use Rattle.stylinggrammar.specs.Record.{styles_from, styling_in};
+ghost use Rattle.stylingwriter.specs.Held.{colour_of, detail_of, style_of};
+ghost use Rattle.stylingwriter.specs.Pieces.{given_text, colorize_text, coloured_text, coloured_room, zoomed_text, zoomed_room, symbols_text};
 
-use crate::figures::{put_two_digits, put_zoom};
-use stylinggrammar::layout::{
-    BACKGROUND, COLORIZE, COLOUR, COLOURED, DETAIL, DETAILS, FIRST_ROW, MOST_STYLES, PADDING, ROW,
-    ROW_DETAIL, ROW_FILL, ROW_NUMBER, ROW_ZOOM, STYLES, ZOOM,
-};
-use token::reading::least;
-use writer::tokens::put_byte;
+use crate::figures::put_zoom;
+use crate::parts::{Colour, Detail, Style, TwoDigits, Zoom};
+use crate::record::Record;
+use writer::tokens::{put_byte, put_two};
 
-// n numbers of the record, each as a byte.
-fn put_bytes(out: &mut [u8], at: usize, w: &[u16], from: usize, n: usize) -> usize
-    requires { (length w.now ≡ 3472) × (from + n ≤ 3472) × (at + n ≤ length out.old) }
-    ensures { Wrote out.old out.new at result (map (λ b. b % 256) (take n (drop from w.now))) }
-{
-    let mut next = at;
-    let mut i: usize = 0;
-    while i < n {
-        let b = w[from + i] % 256;
-        next = put_byte(out, next, b as u8);
-        i += 1;
-    }
-    next
-}
-
-// The colour at an offset of the record.
-fn put_colour(out: &mut [u8], at: usize, w: &[u16], from: usize) -> usize
-    requires { (length w.now ≡ 3472) × (from + 25 ≤ 3472) × (at + 24 ≤ length out.old) }
-    ensures wrote { Wrote out.old out.new at result (colour_at w.now from) }
+// Each letter of a colour as a byte. `as` here: the remainder fits, and try_from would have an Err that nothing gives.
+fn put_colour(out: &mut [u8], at: usize, colour: &Colour<'_>) -> usize
+    requires { at + 24 ≤ length out.old }
+    ensures wrote { Wrote out.old out.new at result (colour_of colour.now) }
     ensures most { result ≤ at + 24 }
 {
-    let n = least(24, w[from]);
-    put_bytes(out, at, w, from + 1, n as usize)
-}
-
-// A line colour, and unless it is bare the fill colour after it, between underscores.
-fn put_detail(out: &mut [u8], at: usize, w: &[u16], from: usize, bare: bool) -> usize
-    requires { (length w.now ≡ 3472) × (from + 50 ≤ 3472) × (at + 51 ≤ length out.old) }
-    ensures wrote { Wrote out.old out.new at result (detail.write (colour_at w.now from, choose bare none (some (colour_at w.now (from + 25))))) }
-    ensures most { result ≤ at + 51 }
-{
-    let first = put_byte(out, at, b'_');
-    let line = put_colour(out, first, w, from);
-    if bare {
-        return put_byte(out, line, b'_');
-    }
-    let comma = put_byte(out, line, b',');
-    let fill = put_colour(out, comma, w, from + COLOUR);
-    put_byte(out, fill, b'_')
-}
-
-// The symbol style at an offset of the record, if it is one of colours.
-fn put_style_colours(out: &mut [u8], at: usize, w: &[u16], row: usize) -> usize
-    requires { (length w.now ≡ 3472) × (row + 53 ≤ 3472) × (at + 54 * length (colour_texts (style_at w.now row ∷ [])) ≤ length out.old) }
-    ensures wrote { Wrote out.old out.new at result (colours_text (style_at w.now row ∷ [])) }
-    ensures most { result ≤ at + 54 * length (colour_texts (style_at w.now row ∷ [])) }
-{
-    let kind = w[row];
-    if kind != COLOURED {
-        return at;
-    }
-    let letter = put_byte(out, at, b'D');
-    let number = put_two_digits(out, letter, w[row + ROW_NUMBER] % 100);
-    let fill = w[row + ROW_FILL];
-    put_detail(out, number, w, row + ROW_DETAIL, fill == 0)
-}
-
-// The symbol style at an offset of the record, if it is a zoom.
-fn put_style_zoom(out: &mut [u8], at: usize, w: &[u16], row: usize) -> usize
-    requires { (length w.now ≡ 3472) × (row + 53 ≤ 3472) × (at + 9 * length (zoom_texts (style_at w.now row ∷ [])) ≤ length out.old) }
-    ensures wrote { Wrote out.old out.new at result (zooms_text (style_at w.now row ∷ [])) }
-    ensures most { result ≤ at + 9 * length (zoom_texts (style_at w.now row ∷ [])) }
-{
-    let kind = w[row];
-    if kind == COLOURED {
-        return at;
-    }
-    let letter = put_byte(out, at, b'Z');
-    let number = put_two_digits(out, letter, w[row + ROW_NUMBER] % 100);
-    let comma = put_byte(out, number, b',');
-    put_zoom(out, comma, w[row + ROW_ZOOM] % 10000)
-}
-
-// The colours of the first n symbol styles.
-fn put_colours(out: &mut [u8], at: usize, w: &[u16], n: usize) -> usize
-    requires { (length w.now ≡ 3472) × (n ≤ 64) × (at + 54 * length (colour_texts (styles_from w.now 0 n)) ≤ length out.old) }
-    ensures wrote { Wrote out.old out.new at result (colours_text (styles_from w.now 0 n)) }
-    ensures most { result ≤ at + 54 * length (colour_texts (styles_from w.now 0 n)) }
-{
     let mut next = at;
-    let mut k: usize = 0;
-    while k < n {
-        next = put_style_colours(out, next, w, FIRST_ROW + ROW * k);
-        k += 1;
+    for letter in colour.letters {
+        next = put_byte(out, next, (*letter % 256) as u8);
     }
     next
 }
 
-// The zooms of the first n symbol styles.
-fn put_zooms(out: &mut [u8], at: usize, w: &[u16], n: usize) -> usize
-    requires { (length w.now ≡ 3472) × (n ≤ 64) × (at + 9 * length (zoom_texts (styles_from w.now 0 n)) ≤ length out.old) }
-    ensures { Wrote out.old out.new at result (zooms_text (styles_from w.now 0 n)) }
+// A piece of a styling string that stands after a letter.
+trait Piece {
+    // its text, and how many bytes are room for any
+    ghost text: { Self → List ℕ };
+
+    ghost room: { ℕ };
+
+    fn put(&self, out: &mut [u8], at: usize) -> usize
+        requires { at + room ≤ length out.old }
+        ensures wrote { Wrote out.old out.new at result (text self.now) }
+        ensures most { result ≤ at + room };
+}
+
+impl Piece for TwoDigits {
+    ghost text = { λ n. two_digits.write n.value };
+
+    ghost room = { 2 };
+
+    fn put(&self, out: &mut [u8], at: usize) -> usize {
+        put_two(out, at, 10, self.value)
+    }
+}
+
+impl Piece for Zoom {
+    ghost text = { λ z. decimal.write (decimal_of z.hundredths) };
+
+    ghost room = { 5 };
+
+    fn put(&self, out: &mut [u8], at: usize) -> usize {
+        put_zoom(out, at, self.hundredths)
+    }
+}
+
+// The background colour, between underscores.
+impl Piece for Colour<'_> {
+    ghost text = { λ c. background.write (colour_of c) };
+
+    ghost room = { 26 };
+
+    fn put(&self, out: &mut [u8], at: usize) -> usize {
+        let first = put_byte(out, at, b'_');
+        let last = put_colour(out, first, self);
+        put_byte(out, last, b'_')
+    }
+}
+
+// A line colour, and the fill colour after it where there is one, between underscores.
+impl Piece for Detail<'_> {
+    ghost text = { λ d. detail.write (detail_of d) };
+
+    ghost room = { 51 };
+
+    fn put(&self, out: &mut [u8], at: usize) -> usize {
+        let first = put_byte(out, at, b'_');
+        let line = put_colour(out, first, &self.line);
+        let Some(fill) = self.fill else {
+            return put_byte(out, line, b'_');
+        };
+        let comma = put_byte(out, line, b',');
+        let last = put_colour(out, comma, &fill);
+        put_byte(out, last, b'_')
+    }
+}
+
+// A letter and a piece, where there is one.
+fn put_given<P: Piece + Copy>(out: &mut [u8], at: usize, letter: u8, piece: Option<P>) -> usize
+    requires { at + (1 + P.room) ≤ length out.old }
+    ensures wrote { Wrote out.old out.new at result (given_text letter P.text piece) }
+    ensures most { result ≤ at + (1 + P.room) }
+{
+    match piece {
+        None => at,
+        Some(piece) => {
+            let next = put_byte(out, at, letter);
+            piece.put(out, next)
+        }
+    }
+}
+
+// The symbol styles of one kind: those of the other have no text.
+trait Kind {
+    // the text of a style, and how many bytes are room for it
+    ghost text: { Styled → List ℕ };
+
+    ghost room: { Styled → ℕ };
+
+    fn put(out: &mut [u8], at: usize, style: &Style<'_>) -> usize
+        requires { at + room (style_of style.now) ≤ length out.old }
+        ensures wrote { Wrote out.old out.new at result (text (style_of style.now)) }
+        ensures most { result ≤ at + room (style_of style.now) };
+}
+
+struct Colours;
+
+impl Kind for Colours {
+    ghost text = { coloured_text };
+
+    ghost room = { coloured_room };
+
+    fn put(out: &mut [u8], at: usize, style: &Style<'_>) -> usize {
+        match style {
+            Style::Coloured(number, detail) => {
+                let letter = put_byte(out, at, b'D');
+                let next = number.put(out, letter);
+                detail.put(out, next)
+            }
+            Style::Zoomed(_, _) => at,
+        }
+    }
+}
+
+struct Zooms;
+
+impl Kind for Zooms {
+    ghost text = { zoomed_text };
+
+    ghost room = { zoomed_room };
+
+    fn put(out: &mut [u8], at: usize, style: &Style<'_>) -> usize {
+        match style {
+            Style::Coloured(_, _) => at,
+            Style::Zoomed(number, zoom) => {
+                let letter = put_byte(out, at, b'Z');
+                let next = number.put(out, letter);
+                let comma = put_byte(out, next, b',');
+                zoom.put(out, comma)
+            }
+        }
+    }
+}
+
+// The first n symbol styles, as far as they are of one kind.
+fn put_styles<K: Kind>(out: &mut [u8], at: usize, styling: &Record<'_>, n: usize) -> usize
+    requires { (n ≤ 64) × (at + sum_by K.room (styles_from styling.now.numbers.now 0 n) ≤ length out.old) }
+    ensures wrote { Wrote out.old out.new at result (flat_map K.text (styles_from styling.now.numbers.now 0 n)) }
+    ensures most { result ≤ at + sum_by K.room (styles_from styling.now.numbers.now 0 n) }
 {
     let mut next = at;
-    let mut k: usize = 0;
-    while k < n {
-        next = put_style_zoom(out, next, w, FIRST_ROW + ROW * k);
-        k += 1;
+    for k in 0..n {
+        next = K::put(out, next, &styling.style(k));
     }
     next
 }
 
 // C, if the sign is colorized.
-fn put_colorize(out: &mut [u8], at: usize, w: &[u16]) -> usize
-    requires { (length w.now ≡ 3472) × (at + 1 ≤ length out.old) }
-    ensures wrote { Wrote out.old out.new at result (colorize_text (styling_in w.now)) }
+fn put_colorize(out: &mut [u8], at: usize, styling: &Record<'_>) -> usize
+    requires { at + 1 ≤ length out.old }
+    ensures wrote { Wrote out.old out.new at result (colorize_text (styling_in styling.now.numbers.now)) }
     ensures most { result ≤ at + 1 }
 {
-    let colorized = w[COLORIZE];
-    if colorized != 1 {
+    if !styling.colorized() {
         return at;
     }
     put_byte(out, at, b'C')
 }
 
-fn put_padding(out: &mut [u8], at: usize, w: &[u16]) -> usize
-    requires { (length w.now ≡ 3472) × (at + 3 ≤ length out.old) }
-    ensures wrote { Wrote out.old out.new at result (padding_text (styling_in w.now)) }
-    ensures most { result ≤ at + 3 }
+// A dash and the symbol styles, if there are any: all colours stand before all zooms.
+fn put_symbols(out: &mut [u8], at: usize, styling: &Record<'_>) -> usize
+    requires { at + 3457 ≤ length out.old }
+    ensures { Wrote out.old out.new at result (symbols_text (styling_in styling.now.numbers.now)) }
 {
-    let padding = w[PADDING];
-    if padding == 0 {
-        return at;
-    }
-    let next = put_byte(out, at, b'P');
-    put_two_digits(out, next, (padding - 1) % 100)
-}
-
-fn put_background(out: &mut [u8], at: usize, w: &[u16]) -> usize
-    requires { (length w.now ≡ 3472) × (at + 27 ≤ length out.old) }
-    ensures wrote { Wrote out.old out.new at result (background_text (styling_in w.now)) }
-    ensures most { result ≤ at + 27 }
-{
-    let size = w[BACKGROUND];
-    if size == 0 {
-        return at;
-    }
-    let letter = put_byte(out, at, b'G');
-    let first = put_byte(out, letter, b'_');
-    let last = put_colour(out, first, w, BACKGROUND);
-    put_byte(out, last, b'_')
-}
-
-fn put_details(out: &mut [u8], at: usize, w: &[u16]) -> usize
-    requires { (length w.now ≡ 3472) × (at + 52 ≤ length out.old) }
-    ensures wrote { Wrote out.old out.new at result (detail_text (styling_in w.now)) }
-    ensures most { result ≤ at + 52 }
-{
-    let colours = w[DETAILS];
-    if colours == 0 {
-        return at;
-    }
-    let next = put_byte(out, at, b'D');
-    put_detail(out, next, w, DETAIL, colours == 1)
-}
-
-fn put_whole_zoom(out: &mut [u8], at: usize, w: &[u16]) -> usize
-    requires { (length w.now ≡ 3472) × (at + 6 ≤ length out.old) }
-    ensures wrote { Wrote out.old out.new at result (zoom_text (styling_in w.now)) }
-    ensures most { result ≤ at + 6 }
-{
-    let zoom = w[ZOOM];
-    if zoom == 0 {
-        return at;
-    }
-    let next = put_byte(out, at, b'Z');
-    put_zoom(out, next, zoom % 10000)
-}
-
-// A dash and the symbol styles, if there are any.
-fn put_symbols(out: &mut [u8], at: usize, w: &[u16]) -> usize
-    requires { (length w.now ≡ 3472) × (at + 3457 ≤ length out.old) }
-    ensures { Wrote out.old out.new at result (symbols_text (styling_in w.now)) }
-{
-    let n = least(MOST_STYLES, w[STYLES]);
+    let n = styling.styles();
     if n == 0 {
         return at;
     }
     let dash = put_byte(out, at, b'-');
-    let colours = put_colours(out, dash, w, n as usize);
-    put_zooms(out, colours, w, n as usize)
+    let colours = put_styles::<Colours>(out, dash, styling, n);
+    put_styles::<Zooms>(out, colours, styling, n)
 }
 
 // Puts the text of the styling in a record at the start of the output, and returns its length.
@@ -205,11 +202,12 @@ pub fn put_styling(w: &[u16], out: &mut [u8]) -> usize
     requires { (length w.now ≡ 3472) × (3547 ≤ length out.old) }
     ensures { Wrote out.old out.new 0 result (styling_text (styling_in w.now)) }
 {
+    let styling = Record { numbers: w };
     let dash = put_byte(out, 0, b'-');
-    let colorize = put_colorize(out, dash, w);
-    let padding = put_padding(out, colorize, w);
-    let background = put_background(out, padding, w);
-    let details = put_details(out, background, w);
-    let zoom = put_whole_zoom(out, details, w);
-    put_symbols(out, zoom, w)
+    let colorize = put_colorize(out, dash, &styling);
+    let padding = put_given(out, colorize, b'P', styling.padding());
+    let background = put_given(out, padding, b'G', styling.background());
+    let detail = put_given(out, background, b'D', styling.detail());
+    let zoom = put_given(out, detail, b'Z', styling.zoom());
+    put_symbols(out, zoom, &styling)
 }

@@ -12,9 +12,6 @@ refusal_done n p e = absurd (let z : ◌≡◌ {A = ℕ} 0 1 = cc in omega arith
 
 -- ONE TEST
 
-pub check_failed : {A : Type 0} (test : Bool) (n p : ℕ) (r : Result A) → test ≡ false → check test n p r ≡ refusal n p
-check_failed test n p r h = rw h
-
 pub check_done : {A : Type 0} {a : A} (test : Bool) (n p : ℕ) (r : Result A) → check test n p r ≡ done a → (test ≡ true) × (r ≡ done a)
 check_done true n p r e = (refl, e)
 check_done false n p r e = refusal_done n p e

@@ -8,11 +8,12 @@ use Rattle.format.specs.Format.{Format}
 use Rattle.format.specs.Numeral.{Range, numeral, Weights}
 use Rattle.format.proofs.Delimited.{Delimited}
 use Rattle.format.proofs.Numerals.{Digit, Ranged, left, less, numeral_range, numeral_strict}
-use Rattle.charset.specs.Bytes.{digit, digits}
+use Rattle.charset.specs.Bytes.{digit_of, digit_byte, digit, digits}
 use Rattle.charset.proofs.Units.{digit_strict}
-use Rattle.token.specs.declared.reading.Token.{Token}
-use Rattle.token.specs.declared.reading.Token.TheVariants.{Value}
+use Rattle.std.specs.Prelude.{Result as Answer, Ok}
+use Rattle.token.specs.declared.refusal.Refusal.{Refusal}
 use Rattle.token.specs.Token.{token_at}
+use Rattle.token.specs.Digits.{one_digit}
 use Rattle.token.proofs.Told.{Fails, Told, told_at, first_fails, second_fails, both_told}
 
 -- a digit up to top that takes one byte
@@ -28,10 +29,10 @@ pub record First (one : ℕ → ℕ → Format ℕ) (p lo hi : ℕ) (s : List �
   pub least : lo - a * p ≤ min (p - 1) (hi - a * p)
 
 -- what is told of the others, r, and so of the whole
-pub record Rest (one : ℕ → ℕ → Format ℕ) (p : ℕ) (ps : List ℕ) (lo hi : ℕ) (s : List ℕ) (at a : ℕ) (r : Token) : Type 0 where
+pub record Rest (one : ℕ → ℕ → Format ℕ) (p : ℕ) (ps : List ℕ) (lo hi : ℕ) (s : List ℕ) (at a : ℕ) (r : Answer ℕ Refusal) : Type 0 where
   pub fails : Fails r → r ≡ token_at (numeral one one (p ∷ ps) lo hi) s at
-  pub value : (b : ℕ) → r ≡ Value b → Value (a * p + b) ≡ token_at (numeral one one (p ∷ ps) lo hi) s at
-  pub fits : (b : ℕ) → r ≡ Value b → a * p + b ≤ hi
+  pub value : (b : ℕ) → r ≡ Ok b → Ok (a * p + b) ≡ token_at (numeral one one (p ∷ ps) lo hi) s at
+  pub fits : (b : ℕ) → r ≡ Ok b → a * p + b ≤ hi
 
 module _ {top : ℕ} {one : ℕ → ℕ → Format ℕ} (u : OneByte top one) where
   abbrev number : List ℕ → ℕ → ℕ → Format ℕ
@@ -47,7 +48,7 @@ module _ {top : ℕ} {one : ℕ → ℕ → Format ℕ} (u : OneByte top one) wh
   range : (ps : List ℕ) (lo hi v : ℕ) → (number ps lo hi).Valid v → Range lo hi v
   range ps lo hi v ok = rw (numeral_range one one u.range u.range ps lo hi) at ok
 
-  pub numeral_told : (ps : List ℕ) (lo hi : ℕ) → lo ≤ hi → Weights top top hi ps → (s : List ℕ) (at v : ℕ) → token_at (number ps lo hi) s at ≡ Value v
+  pub numeral_told : (ps : List ℕ) (lo hi : ℕ) → lo ≤ hi → Weights top top hi ps → (s : List ℕ) (at v : ℕ) → token_at (number ps lo hi) s at ≡ Ok v
       → Told (suc (length ps)) (number ps lo hi) s at v
   numeral_told ps lo hi h k =
       told_at 1 (suc (length ps)) (number ps lo hi)
@@ -72,10 +73,10 @@ module _ {top : ℕ} {one : ℕ → ℕ → Format ℕ} (u : OneByte top one) wh
     delimited : Delimited 1 head
     delimited = (u.strict (lo / p) (hi / p) ordered k.1).delimited
 
-    pub head_fails : (r : Token) → r ≡ token_at head s at → Fails r → r ≡ token_at (number (p ∷ ps) lo hi) s at
+    pub head_fails : (r : Answer ℕ Refusal) → r ≡ token_at head s at → Fails r → r ≡ token_at (number (p ∷ ps) lo hi) s at
     head_fails = first_fails 1 1 head rest sum parts (Range lo hi) delimited s at
 
-    pub head_told : (a : ℕ) (r : Token) → r ≡ token_at head s at → r ≡ Value a → First one p lo hi s at a
+    pub head_told : (a : ℕ) (r : Answer ℕ Refusal) → r ≡ token_at head s at → r ≡ Ok a → First one p lo hi s at a
     head_told a r e v =
         let t = numeral_told [] (lo / p) (hi / p) ordered k.1 s at a (sym e ∙ v) in
         let g = range [] (lo / p) (hi / p) a t.valid in
@@ -89,7 +90,7 @@ module _ {top : ℕ} {one : ℕ → ℕ → Format ℕ} (u : OneByte top one) wh
     pub rest_limits : (a l h : ℕ) → First one p lo hi s at a → l ≡ lo - a * p → h ≡ min (p - 1) (hi - a * p) → (l ≤ h) × Weights top top h ps
     rest_limits a l h f x y = (rw (x, y) f.least, rw y (rest-weights a))
 
-    pub rest_told : (a l h : ℕ) (r : Token) → First one p lo hi s at a → l ≡ lo - a * p → h ≡ min (p - 1) (hi - a * p) → r ≡ token_at (number ps l h) s (at + 1)
+    pub rest_told : (a l h : ℕ) (r : Answer ℕ Refusal) → First one p lo hi s at a → l ≡ lo - a * p → h ≡ min (p - 1) (hi - a * p) → r ≡ token_at (number ps l h) s (at + 1)
         → Rest one p ps lo hi s at a r
     rest_told a l h r f x y e =
         let z : r ≡ token_at (rest a) s (at + 1) = rw (x, y) at e in
@@ -101,10 +102,13 @@ module _ {top : ℕ} {one : ℕ → ℕ → Format ℕ} (u : OneByte top one) wh
               omega (arith, f.under, (range ps (lo - a * p) (min (p - 1) (hi - a * p)) b t.valid).1);
         }
 
+pub digits_of_kind : (top : ℕ) (value byte : ℕ → ℕ) → Digit top (one_digit value byte) → OneByte top (one_digit value byte)
+digits_of_kind top value byte strict = record { strict = strict; range = λ lo hi. refl; size = λ lo hi v. refl }
+
 -- hexadecimal digits
 pub hexadecimal : OneByte 15 digit
-hexadecimal = record { strict = digit_strict; range = λ lo hi. refl; size = λ lo hi v. refl }
+hexadecimal = digits_of_kind 15 digit_of digit_byte digit_strict
 
-pub digits_told : (ps : List ℕ) (lo hi : ℕ) → lo ≤ hi → Weights 15 15 hi ps → (s : List ℕ) (at v : ℕ) → token_at (digits ps lo hi) s at ≡ Value v
+pub digits_told : (ps : List ℕ) (lo hi : ℕ) → lo ≤ hi → Weights 15 15 hi ps → (s : List ℕ) (at v : ℕ) → token_at (digits ps lo hi) s at ≡ Ok v
     → Told (suc (length ps)) (digits ps lo hi) s at v
 digits_told = numeral_told hexadecimal

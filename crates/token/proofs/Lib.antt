@@ -9,3 +9,6 @@ pub mod Checks
 pub mod Exactly
 pub mod PaddedLists
 pub mod Results
+pub mod Handed
+pub mod Wrong
+pub mod Refusals

@@ -11,23 +11,18 @@ use Rattle.format.specs.Located.{Located, found, wrong_at, short_here, locate, a
 use Rattle.format.proofs.Delimited.{Fixed}
 use Rattle.format.proofs.At.{fixed_got}
 use Rattle.token.specs.Refusal.{text_wrong, text_short}
-use Rattle.token.specs.Result.{Result, refusal, done, on_done, and_then, of_outcome, of_located, result_at, value_at}
-use Rattle.token.specs.Token.{told, token_at, token_result, TokenResult}
+use Rattle.token.specs.Result.{Result, refusal, done, outcome, on_done, and_then, of_outcome, of_located, result_at, value_at}
+use Rattle.token.specs.Token.{told, token_at, TokenResult}
 use Rattle.token.proofs.Checks.{refusal_done, done_counted, refusal_counted, Counted, on_done_done}
 
 pub token_result_lem : TokenResult
 unfolding token_at
 token_result_lem f s at = go (locate f s at)
   where
-    go : (l : Located ℕ) → token_result (length s) (told l) ≡ on_done (λ p. p.0) (of_located (length s) l)
+    go : (l : Located ℕ) → outcome (told (length s) l) ≡ on_done (λ p. p.0) (of_located (length s) l)
     go (found v next) = refl
     go (wrong_at p) = refl
     go short_here = refl
-
-pub located_counted : {A : Type 0} (size : ℕ) (l : Located A) → Counted (of_located size l)
-located_counted size (found a next) = done_counted (a, next)
-located_counted size (wrong_at p) = refusal_counted text_wrong p (lit< tt)
-located_counted size short_here = refusal_counted text_short size (lit< tt)
 
 pub on_done_refusal : {A B : Type 0} (to : A → B) (r : Result A) (n p : ℕ) → on_done to r ≡ refusal n p → r ≡ refusal n p
 on_done_refusal to (refusal k q) n p e = cc

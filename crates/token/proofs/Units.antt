@@ -13,12 +13,13 @@ use Rattle.format.specs.Numeral.{Range}
 use Rattle.format.specs.Located.{Located, found, wrong_at, short_here, located, locate, on_found}
 use Rattle.format.proofs.At.{mapped_at}
 use Rattle.charset.specs.Bytes.{byte_of, byte, scalar_of, utf8, character}
-use Rattle.token.specs.declared.reading.Token.TheVariants.{Value, Wrong, Short}
+use Rattle.std.specs.Prelude.{Result as Answer, Ok, Err}
+use Rattle.token.specs.declared.refusal.Refusal.TheVariants.{TextWrong, TextShort}
 use Rattle.token.specs.Token.{told, token_at}
 
-located_is : (f : Format ℕ) (s : List ℕ) (at : ℕ) (l : Located ℕ) → locate f s at ≡ l → told l ≡ token_at f s at
+located_is : (f : Format ℕ) (s : List ℕ) (at : ℕ) (l : Located ℕ) → locate f s at ≡ l → told (length s) l ≡ token_at f s at
 unfolding token_at
-located_is f s at l e = ap told (sym e)
+located_is f s at l e = ap (told (length s)) (sym e)
 
 module _ (w : ℕ) (of : List ℕ → ℕ) (to : ℕ → List ℕ) (lo hi : ℕ) (s : List ℕ) (at : ℕ) where
   unit_cut : 1 ≤ w → length s < at + w → locate (unit w of to lo hi) s at ≡ short_here
@@ -50,27 +51,27 @@ module _ (of : ℕ → ℕ) (to : ℕ → List ℕ) (lo hi : ℕ) (s : List ℕ)
   abbrev one : Format ℕ
   one = unit 1 (byte_of of) to lo hi
 
-  pub byte_cut : length s ≤ at → Short ≡ token_at one s at
+  pub byte_cut : length s ≤ at → Err (TextShort (length s)) ≡ token_at one s at
   byte_cut h = located_is one s at short_here (unit_cut 1 (byte_of of) to lo hi s at (omega arith) (omega arith))
 
   module _ (d : ℕ) (room : at < length s) (e : d ≡ of (get_or s at 0)) where
     byte-is : byte_of of (take 1 (drop at s)) ≡ d
     byte-is = rw (drop-cons s at 0 room) (sym e)
 
-    pub byte_below : d < lo → Wrong at ≡ token_at one s at
+    pub byte_below : d < lo → Err (TextWrong at) ≡ token_at one s at
     byte_below h = located_is one s at (wrong_at at) (unit_below 1 (byte_of of) to lo hi s at d (omega arith) byte-is h)
 
-    pub byte_above : lo ≤ d → hi < d → Wrong at ≡ token_at one s at
+    pub byte_above : lo ≤ d → hi < d → Err (TextWrong at) ≡ token_at one s at
     byte_above k h = located_is one s at (wrong_at at) (unit_above 1 (byte_of of) to lo hi s at d (omega arith) byte-is k h)
 
-    pub byte_within : lo ≤ d → d ≤ hi → Value d ≡ token_at one s at
+    pub byte_within : lo ≤ d → d ≤ hi → Ok d ≡ token_at one s at
     byte_within k h = located_is one s at _ (unit-within 1 (byte_of of) to lo hi s at d (omega arith) byte-is k h)
 
 -- a fixed byte
-pub byte_other : (b : ℕ) (s : List ℕ) (at : ℕ) → at < length s → (get_or s at 0 ≡ b → ⊥) → Wrong at ≡ token_at (byte b) s at
+pub byte_other : (b : ℕ) (s : List ℕ) (at : ℕ) → at < length s → (get_or s at 0 ≡ b → ⊥) → Err (TextWrong at) ≡ token_at (byte b) s at
 byte_other b s at room n = go (ltb (get_or s at 0) b) refl
   where
-    go : (t : Bool) → ltb (get_or s at 0) b ≡ t → Wrong at ≡ token_at (byte b) s at
+    go : (t : Bool) → ltb (get_or s at 0) b ≡ t → Err (TextWrong at) ≡ token_at (byte b) s at
     go true e = byte_below (λ a. a) (λ a. a ∷ []) b b s at (get_or s at 0) room refl (ltb-true (get_or s at 0) b e)
     go false e = let h = ltb-false (get_or s at 0) b e in byte_above (λ a. a) (λ a. a ∷ []) b b s at (get_or s at 0) room refl h (omega (arith, n))
 
@@ -85,23 +86,23 @@ module _ (from lo hi : ℕ) (s : List ℕ) (at : ℕ) where
   abbrev code : Format ℕ
   code = unit 4 scalar_of utf8 (from + lo) (from + hi)
 
-  code_is : (l : Located ℕ) → locate code s at ≡ l → told (on_found (λ c. c - from) l) ≡ token_at (character from lo hi) s at
+  code_is : (l : Located ℕ) → locate code s at ≡ l → told (length s) (on_found (λ c. c - from) l) ≡ token_at (character from lo hi) s at
   code_is l e =
       located_is (character from lo hi) s at (on_found (λ c. c - from) l)
       (mapped_at code (λ c. c - from) (λ n. from + n) (Range lo hi) s at ∙ ap (on_found (λ c. c - from)) e)
 
-  pub character_cut : length s < at + 4 → Short ≡ token_at (character from lo hi) s at
+  pub character_cut : length s < at + 4 → Err (TextShort (length s)) ≡ token_at (character from lo hi) s at
   character_cut h = code_is short_here (unit_cut 4 scalar_of utf8 (from + lo) (from + hi) s at (omega arith) h)
 
   module _ (c : ℕ) (room : at + 4 ≤ length s) (e : c ≡ scalar_of (get_or s at 0 ∷ get_or s (at + 1) 0 ∷ get_or s (at + 2) 0 ∷ get_or s (at + 3) 0 ∷ [])) where
     scalar_is : scalar_of (take 4 (drop at s)) ≡ c
     scalar_is = ap scalar_of (four_at s at room) ∙ sym e
 
-    pub character_below : c < from + lo → Wrong at ≡ token_at (character from lo hi) s at
+    pub character_below : c < from + lo → Err (TextWrong at) ≡ token_at (character from lo hi) s at
     character_below h = code_is (wrong_at at) (unit_below 4 scalar_of utf8 (from + lo) (from + hi) s at c room scalar_is h)
 
-    pub character_above : from + lo ≤ c → from + hi < c → Wrong at ≡ token_at (character from lo hi) s at
+    pub character_above : from + lo ≤ c → from + hi < c → Err (TextWrong at) ≡ token_at (character from lo hi) s at
     character_above k h = code_is (wrong_at at) (unit_above 4 scalar_of utf8 (from + lo) (from + hi) s at c room scalar_is k h)
 
-    pub character_within : from + lo ≤ c → c ≤ from + hi → Value (c - from) ≡ token_at (character from lo hi) s at
+    pub character_within : from + lo ≤ c → c ≤ from + hi → Ok (c - from) ≡ token_at (character from lo hi) s at
     character_within k h = code_is _ (unit-within 4 scalar_of utf8 (from + lo) (from + hi) s at c room scalar_is k h)

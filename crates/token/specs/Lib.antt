@@ -5,3 +5,4 @@ pub mod Symbol
 pub mod Ends
 pub mod Wrote
 pub mod Padded
+pub mod Digits

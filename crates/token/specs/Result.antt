@@ -1,15 +1,20 @@
 -- What a call comes to, and how it is answered.
-use Rattle.std.specs.Prelude.{ℕ, ◌≡◌, List, ◌++◌, Bool, ltb, length, take, drop}
+use Rattle.std.specs.Prelude.{Result as Answer, Ok, Err, ℕ, ◌≡◌, List, ◌++◌, Bool, ltb, length, take, drop}
 use Rattle.format.specs.Format.{Format, choose}
 use Rattle.format.specs.Places.{Outcome, fine, refused, ends_short}
 use Rattle.format.specs.Located.{Located, found, wrong_at, short_here, locate}
-use Rattle.token.specs.declared.Written.{Written}
-use Rattle.token.specs.Refusal.{text_wrong, text_short, room_short}
+use Rattle.token.specs.declared.refusal.Refusal.{Refusal}
+use Rattle.token.specs.Refusal.{text_wrong, text_short, room_short, number_of, place_of}
 
 -- a refusal number with its place, or a value
 pub data Result (A : Type 0) : Type 0 where
   refusal : ℕ → ℕ → Result A
   done : A → Result A
+
+-- what a function answers: a value, or a refusal by its number and place
+abbrev pub outcome : {A : Type 0} → Answer A Refusal → Result A
+outcome (Ok a) = done a
+outcome (Err e) = refusal (number_of e) (place_of e)
 
 abbrev pub on_done : {A B : Type 0} → (A → B) → Result A → Result B
 on_done to (refusal number place) = refusal number place
@@ -51,10 +56,20 @@ abbrev pub in_room : ℕ → Result (List ℕ) → Result (List ℕ)
 in_room room (refusal number place) = refusal number place
 in_room room (done text) = fitted room text
 
--- the answer: its length, and zeros where the call is refused
+-- What a call that writes text answers, as numbers: its length, and zeros where the call is refused.
+pub record Written : Type 0 where
+  pub number : ℕ
+  pub place : ℕ
+  pub length : ℕ
+
 abbrev pub written_as : Result (List ℕ) → Written
 written_as (refusal number place) = record { number = number; place = place; length = 0 }
 written_as (done text) = record { number = 0; place = 0; length = length text }
+
+-- and by the function that makes it: the text's length, or the refusal
+abbrev pub as_written : Answer ℕ Refusal → Written
+as_written (Ok n) = record { number = 0; place = 0; length = n }
+as_written (Err e) = record { number = number_of e; place = place_of e; length = 0 }
 
 -- the lent memory after the call: the text at its start, and nothing else changed
 abbrev pub left_as : List ℕ → Result (List ℕ) → List ℕ

@@ -1,13 +1,6 @@
-// One token of a text, what a call that writes text answers, and the refusal numbers.
+// One token of a text, and why a call is refused.
 #![tactic(auto)]
 
+pub mod numerals;
 pub mod reading;
 pub mod refusal;
-
-// What a call that writes text answers: the text's length. The text stands at the start of the output.
-#[derive(Clone, Copy)]
-pub struct Written {
-    pub number: u8,
-    pub place: usize,
-    pub length: usize,
-}

@@ -1,15 +1,19 @@
-// Reading one token at an offset of a text, digit by digit, so that the place of what is wrong is known.
-ghost use Rattle.std.specs.Prelude.{◌≡◌, [], ◌∷◌, ◌+◌, ◌-◌, ◌^◌, ◌≤◌, min};
-ghost use Rattle.format.specs.Numeral.{Weights};
-ghost use Rattle.charset.specs.Bytes.{digit_of, digit as oneDigit, digits, byte, marker_of, letter, scalar_of, character};
+// Reading one token at an offset of a text, digit by digit, so that the place of what is wrong is known. Text and offset are two
+// parameters: a struct of both would be taken apart and made again at every part. The character set is a value, which C gives, so that
+// a match tells the tokens of the two apart and no type parameter.
+ghost use Rattle.std.specs.Prelude.{◌≡◌, [], ◌∷◌, ◌+◌, ◌^◌, ◌≤◌};
+ghost use Rattle.charset.specs.Bytes.{byte, marker_of, marker_byte, scalar_of, character};
+ghost use Rattle.charset.proofs.Units.{letter_strict};
 ghost use Rattle.charset.specs.Tokens.{last_punctuation, key, null, null_or_key, tokens};
 ghost use Rattle.token.specs.Token.{token_at};
 ghost use Rattle.token.specs.Ends.{left_over};
 
-use super::refusal::{DONE, TEXT_SHORT, TEXT_WRONG};
+use super::numerals::{Digit, Hexadecimal, digit_at, three_at, two_at};
+use super::refusal::Refusal;
 use charset::Charset;
 
-// The last base of writing symbols, of location symbols and of punctuation: each class takes in those before it.
+// The last base of writing symbols, of location symbols and of punctuation: each class takes in those before it. They are numbers and
+// no enum, since any last base between them may be asked for.
 pub const LAST_WRITING: u16 = 0x37e;
 
 pub const LAST_LOCATION: u16 = 0x386;
@@ -21,172 +25,60 @@ pub const LEAST_NUMBER: u16 = 250;
 
 pub const GREATEST_NUMBER: u16 = 749;
 
-// The code points that markers, numbers and symbols are counted from in SWU.
+// The code points that markers, numbers and symbols are counted from in SWU. `as`, since a const can't call From.
 pub const MARKERS: u32 = 0x1d800;
 
 pub const NUMBERS: u32 = 0x1d80c - LEAST_NUMBER as u32;
 
 pub const SYMBOLS: u32 = 0x40000;
 
-// What reading one token finds: its value, the offset of the unit that is not allowed, or that the text ends.
-#[derive(Clone, Copy)]
-pub enum Token {
-    Value(u16),
-    Wrong(usize),
-    Short,
-}
-
-// The value of a hexadecimal digit in lower case, and 16 for any other byte.
-fn digit(b: u8) -> u16
-    ensures { result ≡ digit_of b }
-{
-    if b < b'0' {
-        return 16;
-    }
-    if b < 58 {
-        return (b as u16) - 48;
-    }
-    if b < b'a' {
-        return 16;
-    }
-    if b < 103 {
-        return (b as u16) - 87;
-    }
-    16
-}
-
-// One digit of lo to hi.
-pub fn digit_at(s: &[u8], at: usize, lo: u16, hi: u16) -> Token
-    ensures { result ≡ token_at (oneDigit lo hi) s.now at }
-{
-    if s.len() <= at {
-        return Token::Short;
-    }
-    let d = digit(s[at]);
-    if d < lo {
-        return Token::Wrong(at);
-    }
-    if hi < d {
-        return Token::Wrong(at);
-    }
-    Token::Value(d)
-}
-
-// What is left of a after b, and 0 where b is more.
-pub fn less(a: u16, b: u16) -> u16
-    ensures { result ≡ a - b }
-{
-    if a < b {
-        return 0;
-    }
-    a - b
-}
-
-// The lesser.
-pub fn least(a: u16, b: u16) -> u16
-    ensures { result ≡ min a b }
-{
-    if a < b {
-        return a;
-    }
-    b
-}
-
-// Two digits that say a number of lo to hi, the first with the weight p.
-pub fn two_at(s: &[u8], at: usize, p: u16, lo: u16, hi: u16) -> Token
-    requires { (at + 8 ≤ 2 ^ 64) × (lo ≤ hi) × Weights 15 15 hi (p ∷ []) }
-    ensures { result ≡ token_at (digits (p ∷ []) lo hi) s.now at }
-{
-    let first = digit_at(s, at, lo / p, hi / p);
-    let Token::Value(a) = first else {
-        return first;
-    };
-    let from = a * p;
-    let next = digit_at(s, at + 1, less(lo, from), least(p - 1, less(hi, from)));
-    let Token::Value(b) = next else {
-        return next;
-    };
-    Token::Value(from + b)
-}
-
-// Three digits that say a number of lo to hi, the first two with the weights p and q.
-pub fn three_at(s: &[u8], at: usize, p: u16, q: u16, lo: u16, hi: u16) -> Token
-    requires { (at + 16 ≤ 2 ^ 64) × (lo ≤ hi) × Weights 15 15 hi (p ∷ q ∷ []) }
-    ensures { result ≡ token_at (digits (p ∷ q ∷ []) lo hi) s.now at }
-{
-    let first = digit_at(s, at, lo / p, hi / p);
-    let Token::Value(a) = first else {
-        return first;
-    };
-    let from = a * p;
-    let next = two_at(s, at + 1, q, less(lo, from), least(p - 1, less(hi, from)));
-    let Token::Value(b) = next else {
-        return next;
-    };
-    Token::Value(from + b)
-}
-
 // The byte b.
-pub fn byte_at(s: &[u8], at: usize, b: u8) -> Token
+pub fn byte_at(s: &[u8], at: usize, b: u8) -> Result<u16, Refusal>
     ensures { result ≡ token_at (byte b) s.now at }
 {
     if s.len() <= at {
-        return Token::Short;
+        return Err(Refusal::TextShort(s.len()));
     }
     if s[at] != b {
-        return Token::Wrong(at);
+        return Err(Refusal::TextWrong(at));
     }
-    Token::Value(b as u16)
+    Ok(u16::from(b))
 }
 
 // What follows the S of a symbol key with a base of at most top, as its code.
-fn key_at(s: &[u8], at: usize, top: u16) -> Token
+fn key_at(s: &[u8], at: usize, top: u16) -> Result<u16, Refusal>
     requires { (at + 32 ≤ 2 ^ 64) × (0x100 ≤ top) × (top ≤ last_punctuation) }
     ensures { result ≡ token_at (key top) s.now at }
 {
-    let base = three_at(s, at, 256, 16, 0x100, top);
-    let Token::Value(b) = base else {
-        return base;
-    };
-    let turn = two_at(s, at + 3, 16, 0, 0x5f);
-    let Token::Value(t) = turn else {
-        return turn;
-    };
-    Token::Value((b - 0x100) * 96 + t + 1)
+    let b = three_at::<Hexadecimal>(s, at, 256, 16, 0x100, top)?;
+    let t = two_at::<Hexadecimal>(s, at + 3, 16, 0, 0x5f)?;
+    Ok((b - 0x100) * 96 + t + 1)
 }
 
 // What follows the S of the null symbol.
-pub fn null_at(s: &[u8], at: usize) -> Token
+pub fn null_at(s: &[u8], at: usize) -> Result<u16, Refusal>
     requires { at + 32 ≤ 2 ^ 64 }
     ensures { result ≡ token_at null s.now at }
 {
-    let three = three_at(s, at, 256, 16, 0, 0);
-    let Token::Value(_) = three else {
-        return three;
-    };
-    let two = two_at(s, at + 3, 16, 0, 0);
-    let Token::Value(_) = two else {
-        return two;
-    };
-    Token::Value(0)
+    three_at::<Hexadecimal>(s, at, 256, 16, 0, 0)?;
+    two_at::<Hexadecimal>(s, at + 3, 16, 0, 0)?;
+    Ok(0)
 }
 
 // What follows the S of the null symbol or of a symbol key with a base of at most top.
-fn null_or_key_at(s: &[u8], at: usize, top: u16) -> Token
+fn null_or_key_at(s: &[u8], at: usize, top: u16) -> Result<u16, Refusal>
     requires { (at + 32 ≤ 2 ^ 64) × (0x100 ≤ top) × (top ≤ last_punctuation) }
     ensures { result ≡ token_at (null_or_key top) s.now at }
 {
     let zero = null_at(s, at);
-    let Token::Wrong(p) = zero else {
-        return zero;
-    };
-    if p == at {
-        return key_at(s, at, top);
+    match zero {
+        Err(refusal) if refusal.is_wrong_at(at) => key_at(s, at, top),
+        _ => zero,
     }
-    zero
 }
 
-// The markers A, B, L, M, R are 0 to 4, and any other byte is 5.
+// The markers A, B, L, M, R are 0 to 4, and any other byte is 5. The tests are moves without a branch, since no processor foresees
+// which marker it is.
 pub fn marker_of(b: u8) -> u16
     ensures { result ≡ marker_of b }
 {
@@ -209,123 +101,111 @@ pub fn marker_of(b: u8) -> u16
     m
 }
 
-// One marker of lo to hi in FSW.
-fn letter_at(s: &[u8], at: usize, lo: u16, hi: u16) -> Token
-    ensures { result ≡ token_at (letter lo hi) s.now at }
-{
-    if s.len() <= at {
-        return Token::Short;
+// A marker in FSW, as a digit.
+#[derive(Clone, Copy)]
+pub struct Letter;
+
+impl Digit for Letter {
+    ghost top = { 4 };
+
+    ghost value = { marker_of };
+
+    ghost byte = { marker_byte };
+
+    fn value_of(b: u8) -> u16 {
+        marker_of(b)
     }
-    let m = marker_of(s[at]);
-    if m < lo {
-        return Token::Wrong(at);
-    }
-    if hi < m {
-        return Token::Wrong(at);
-    }
-    Token::Value(m)
+
+    ghost strict = { letter_strict };
 }
 
 // The code point of four bytes of UTF-8. What bytes say that are not well-formed lies outside every range that is
 // asked for.
+#[tactic(auto, unfolding(charset::specs::Bytes::scalar_of))]
 fn scalar(a: u8, b: u8, c: u8, d: u8) -> u32
     ensures { result ≡ scalar_of (a ∷ b ∷ c ∷ d ∷ []) }
 {
-    if a / 8 != 30 {
+    if a / 8 != 30 || b / 64 != 2 || c / 64 != 2 || d / 64 != 2 {
         return 0;
     }
-    if b / 64 != 2 {
-        return 0;
-    }
-    if c / 64 != 2 {
-        return 0;
-    }
-    if d / 64 != 2 {
-        return 0;
-    }
-    (a as u32) % 8 * 262144 + (b as u32) % 64 * 4096 + (c as u32) % 64 * 64 + (d as u32) % 64
+    u32::from(a) % 8 * 262144
+        + u32::from(b) % 64 * 4096
+        + u32::from(c) % 64 * 64
+        + u32::from(d) % 64
 }
 
-// One character of four bytes, as its distance lo to hi from a code point.
-fn character_at(s: &[u8], at: usize, from: u32, lo: u16, hi: u16) -> Token
+// One character of four bytes, as its distance lo to hi from a code point. `as`: the distance is at most hi, and by From the proof of
+// the two limits does not close.
+fn character_at(s: &[u8], at: usize, from: u32, lo: u16, hi: u16) -> Result<u16, Refusal>
     requires { (at + 8 ≤ 2 ^ 64) × (from ≤ 0x40000) }
     ensures { result ≡ token_at (character from lo hi) s.now at }
 {
     if s.len() < at + 4 {
-        return Token::Short;
+        return Err(Refusal::TextShort(s.len()));
     }
     let c = scalar(s[at], s[at + 1], s[at + 2], s[at + 3]);
-    if c < from + lo as u32 {
-        return Token::Wrong(at);
+    if c < from + lo as u32 || from + (hi as u32) < c {
+        return Err(Refusal::TextWrong(at));
     }
-    if from + (hi as u32) < c {
-        return Token::Wrong(at);
-    }
-    Token::Value((c - from) as u16)
+    Ok((c - from) as u16)
 }
 
-// A symbol in FSW with a base of at most top.
-fn fsw_symbol_at(s: &[u8], at: usize, top: u16) -> Token
+// A symbol in FSW with a base of at most top. With null it is another function, here and below, as it is another format of the grammar.
+fn fsw_symbol_at(s: &[u8], at: usize, top: u16) -> Result<u16, Refusal>
     requires { (at + 64 ≤ 2 ^ 64) × (0x100 ≤ top) × (top ≤ last_punctuation) }
     ensures { result ≡ token_at ((tokens Charset.Fsw).symbol top) s.now at }
 {
-    let letter = byte_at(s, at, b'S');
-    let Token::Value(_) = letter else {
-        return letter;
-    };
+    byte_at(s, at, b'S')?;
     key_at(s, at + 1, top)
 }
 
 // The same, or the null symbol.
-fn fsw_symbol_or_null_at(s: &[u8], at: usize, top: u16) -> Token
+fn fsw_symbol_or_null_at(s: &[u8], at: usize, top: u16) -> Result<u16, Refusal>
     requires { (at + 64 ≤ 2 ^ 64) × (0x100 ≤ top) × (top ≤ last_punctuation) }
     ensures { result ≡ token_at ((tokens Charset.Fsw).symbol_or_null top) s.now at }
 {
-    let letter = byte_at(s, at, b'S');
-    let Token::Value(_) = letter else {
-        return letter;
-    };
+    byte_at(s, at, b'S')?;
     null_or_key_at(s, at + 1, top)
 }
 
 // A number of a coordinate in FSW: a wrong one is told at its first byte.
-fn fsw_number_at(s: &[u8], at: usize) -> Token
+fn fsw_number_at(s: &[u8], at: usize) -> Result<u16, Refusal>
     requires { at + 16 ≤ 2 ^ 64 }
     ensures { result ≡ token_at (tokens Charset.Fsw).number s.now at }
 {
-    let number = three_at(s, at, 100, 10, LEAST_NUMBER, GREATEST_NUMBER);
-    let Token::Wrong(_) = number else {
+    let number = three_at::<Hexadecimal>(s, at, 100, 10, LEAST_NUMBER, GREATEST_NUMBER);
+    let Err(refusal) = number else {
         return number;
     };
-    Token::Wrong(at)
+    match refusal {
+        Refusal::TextWrong(_) => Err(Refusal::TextWrong(at)),
+        _ => number,
+    }
 }
 
 // The second number of a coordinate in FSW, after its x. It is read by the function that reads the first, which the compiler
 // then leaves out of the loop over the symbols.
-fn fsw_second_at(s: &[u8], at: usize) -> Token
+fn fsw_second_at(s: &[u8], at: usize) -> Result<u16, Refusal>
     requires { at + 64 ≤ 2 ^ 64 }
     ensures { result ≡ token_at (tokens Charset.Fsw).second s.now at }
 {
-    let letter = byte_at(s, at, b'x');
-    let Token::Value(_) = letter else {
-        return letter;
-    };
+    byte_at(s, at, b'x')?;
     number_at(Charset::Fsw, s, at + 1)
 }
 
 // A marker of lo to hi.
-pub fn marker_at(set: Charset, s: &[u8], at: usize, lo: u16, hi: u16) -> Token
+pub fn marker_at(set: Charset, s: &[u8], at: usize, lo: u16, hi: u16) -> Result<u16, Refusal>
     requires { (at + 64 ≤ 2 ^ 64) × (hi ≤ 4) }
     ensures { result ≡ token_at ((tokens set).marker lo hi) s.now at }
 {
     match set {
-        Charset::Fsw => letter_at(s, at, lo, hi),
+        Charset::Fsw => digit_at::<Letter>(s, at, lo, hi),
         Charset::Swu => character_at(s, at, MARKERS, lo, hi),
     }
 }
 
 // A symbol with a base of at most top.
-pub fn symbol_at(set: Charset, s: &[u8], at: usize, top: u16) -> Token
+pub fn symbol_at(set: Charset, s: &[u8], at: usize, top: u16) -> Result<u16, Refusal>
     requires { (at + 64 ≤ 2 ^ 64) × (0x100 ≤ top) × (top ≤ last_punctuation) }
     ensures { result ≡ token_at ((tokens set).symbol top) s.now at }
 {
@@ -336,7 +216,7 @@ pub fn symbol_at(set: Charset, s: &[u8], at: usize, top: u16) -> Token
 }
 
 // The same, or the null symbol.
-pub fn symbol_or_null_at(set: Charset, s: &[u8], at: usize, top: u16) -> Token
+pub fn symbol_or_null_at(set: Charset, s: &[u8], at: usize, top: u16) -> Result<u16, Refusal>
     requires { (at + 64 ≤ 2 ^ 64) × (0x100 ≤ top) × (top ≤ last_punctuation) }
     ensures { result ≡ token_at ((tokens set).symbol_or_null top) s.now at }
 {
@@ -347,7 +227,7 @@ pub fn symbol_or_null_at(set: Charset, s: &[u8], at: usize, top: u16) -> Token
 }
 
 // The first number of a coordinate.
-pub fn number_at(set: Charset, s: &[u8], at: usize) -> Token
+pub fn number_at(set: Charset, s: &[u8], at: usize) -> Result<u16, Refusal>
     requires { at + 32 ≤ 2 ^ 64 }
     ensures { result ≡ token_at (tokens set).number s.now at }
 {
@@ -358,7 +238,7 @@ pub fn number_at(set: Charset, s: &[u8], at: usize) -> Token
 }
 
 // The second number of a coordinate.
-pub fn second_at(set: Charset, s: &[u8], at: usize) -> Token
+pub fn second_at(set: Charset, s: &[u8], at: usize) -> Result<u16, Refusal>
     requires { at + 64 ≤ 2 ^ 64 }
     ensures { result ≡ token_at (tokens set).second s.now at }
 {
@@ -405,17 +285,16 @@ fn unit(set: Charset) -> usize
     }
 }
 
-// Where nothing may follow: 0 at the end of a text, 2 where less than a unit is left, and 1 where more is.
-pub fn left_over(set: Charset, size: usize, at: usize) -> u8
+// The end of a text of so many bytes, where nothing may follow: where less than a unit is left it is short, and where more is, wrong.
+pub fn left_over(set: Charset, size: usize, at: usize) -> Result<(), Refusal>
     requires { at ≤ size }
     ensures { result ≡ left_over set size at }
 {
     if at == size {
-        return DONE;
+        return Ok(());
     }
-    let w = unit(set);
-    if size - at < w {
-        return TEXT_SHORT;
+    if size - at < unit(set) {
+        return Err(Refusal::TextShort(size));
     }
-    TEXT_WRONG
+    Err(Refusal::TextWrong(at))
 }

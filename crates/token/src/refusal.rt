@@ -1,44 +1,99 @@
-// The refusal numbers of document 01, "Refusal numbers", and of document 02 from 17 on. What each place means is said there too.
+// Why a call is refused: the refusals of document 01, "Refusal numbers", and those of document 02 from 17 on.
+ghost use Rattle.std.specs.Prelude.{◌≡◌};
+ghost use Rattle.token.specs.Refusal.{number_of, place_of, wrong_at};
 
-// 0 with place 0
-pub const DONE: u8 = 0;
-// the place is that of the first byte (in SWU the first group) that is not allowed, or of the coordinate number that it is in
-pub const TEXT_WRONG: u8 = 1;
-// the place is the text's length
-pub const TEXT_SHORT: u8 = 2;
+use std::fmt;
 
-pub const PREFIX_LONG: u8 = 3;
+// A refusal holds its place, where it has one.
+#[derive(Clone, Copy, Debug, PartialEq, Eq)]
+pub enum Refusal {
+    // the first byte (in SWU the first group) that is not allowed, or the coordinate number that it is in
+    TextWrong(usize),
+    // the text's length
+    TextShort(usize),
+    PrefixLong,
+    SignboxLong,
+    // the first R whose end is below its start
+    RangeReversed(usize),
+    // the room needed
+    RoomShort(usize),
+    SizesLength,
+    // the number of the first such symbol, from 1
+    SymbolUnsized(usize),
+    NoSymbols,
+    NumberOutside,
+    ListWrong,
+    DictionaryUnended,
+    // the line's number, from 1
+    LineWrong(usize),
+    TooMany,
+    CodeWrong,
+    EntryAbsent,
+    ZoomOutside,
+    ColourLong,
+    StylesLong,
+    // an item of a query has more than eight alternatives
+    AlternativesLong,
+}
 
-pub const SIGNBOX_LONG: u8 = 4;
-// the place is the offset of the first R whose end is below its start
-pub const RANGE_REVERSED: u8 = 5;
-// the place is the room needed
-pub const ROOM_SHORT: u8 = 6;
+impl Refusal {
+    pub fn number(self) -> u8
+        ensures { result ≡ number_of self }
+    {
+        match self {
+            Refusal::TextWrong(_) => 1,
+            Refusal::TextShort(_) => 2,
+            Refusal::PrefixLong => 3,
+            Refusal::SignboxLong => 4,
+            Refusal::RangeReversed(_) => 5,
+            Refusal::RoomShort(_) => 6,
+            Refusal::SizesLength => 7,
+            Refusal::SymbolUnsized(_) => 8,
+            Refusal::NoSymbols => 9,
+            Refusal::NumberOutside => 10,
+            Refusal::ListWrong => 11,
+            Refusal::DictionaryUnended => 12,
+            Refusal::LineWrong(_) => 13,
+            Refusal::TooMany => 14,
+            Refusal::CodeWrong => 15,
+            Refusal::EntryAbsent => 16,
+            Refusal::ZoomOutside => 17,
+            Refusal::ColourLong => 18,
+            Refusal::StylesLong => 19,
+            Refusal::AlternativesLong => 22,
+        }
+    }
 
-pub const SIZES_LENGTH: u8 = 7;
-// the place is the number of the first such symbol, from 1
-pub const SYMBOL_UNSIZED: u8 = 8;
+    // Where it is: 0 where the refusal has no place.
+    pub fn place(self) -> usize
+        ensures { result ≡ place_of self }
+    {
+        match self {
+            Refusal::TextWrong(place)
+            | Refusal::TextShort(place)
+            | Refusal::RangeReversed(place)
+            | Refusal::RoomShort(place)
+            | Refusal::SymbolUnsized(place)
+            | Refusal::LineWrong(place) => place,
+            _ => 0,
+        }
+    }
 
-pub const NO_SYMBOLS: u8 = 9;
+    // Whether nothing that is allowed stands at an offset.
+    pub fn is_wrong_at(self, at: usize) -> bool
+        ensures { result ≡ wrong_at at self }
+    {
+        match self {
+            Refusal::TextWrong(place) => place == at,
+            _ => false,
+        }
+    }
+}
 
-pub const NUMBER_OUTSIDE: u8 = 10;
-
-pub const LIST_WRONG: u8 = 11;
-
-pub const DICTIONARY_UNENDED: u8 = 12;
-// the place is the line's number, from 1
-pub const LINE_WRONG: u8 = 13;
-
-pub const TOO_MANY: u8 = 14;
-
-pub const CODE_WRONG: u8 = 15;
-
-pub const ENTRY_ABSENT: u8 = 16;
-
-pub const ZOOM_OUTSIDE: u8 = 17;
-
-pub const COLOUR_LONG: u8 = 18;
-
-pub const STYLES_LONG: u8 = 19;
-// an item of a query has more than eight alternatives
-pub const ALTERNATIVES_LONG: u8 = 22;
+impl fmt::Display for Refusal {
+    fn fmt<W: fmt::Write>(&self, f: &mut fmt::Formatter<W>) -> fmt::Result {
+        let number = self.number();
+        let place = self.place();
+        write!(f, "refused as {number} at {place}")
+    }
+}

@@ -13,8 +13,7 @@ use Rattle.querygrammar.specs.declared.Edition.TheVariants.{First as FirstEditio
 use Rattle.querygrammar.specs.Spelling.{first}
 use Rattle.querygrammar.specs.Query.{Query, query}
 use Rattle.query.specs.Reading.{Asked, query_asked}
-use Rattle.matching.specs.declared.Verdict.{Verdict}
-use Rattle.matching.specs.Meets.{Serves, Condition, Meets, verdict_of, answered}
+use Rattle.matching.specs.Meets.{Serves, Condition, Meets, Verdict, verdict_of, answered}
 use Rattle.matching.specs.MeetsLaws.{First}
 
 -- not met, and zeros but for number and place

@@ -1,17 +1,18 @@
 // The verdict of a query on a sign, both as texts.
 #![tactic(auto)]
 
-ghost use Rattle.std.specs.Prelude.{◌≡◌};
-ghost use Rattle.reader.specs.Signs.{sign_of};
-ghost use Rattle.matching.specs.Inner.{Laid};
+ghost use Rattle.std.specs.Prelude.{◌≡◌, length};
+ghost use Rattle.query.specs.Inner.{Blank};
+ghost use Rattle.matching.specs.Meets.{as_verdict};
 ghost use Rattle.verdict.specs.Verdict.{verdict_in};
-ghost use Rattle.verdict.specs.Inner.{verdict_after};
+ghost use Rattle.verdict.specs.Inner.{Fits};
 
 use charset::Charset;
 use matching::Verdict;
+use matching::judging::Conditions;
 use querygrammar::Edition;
 use queryitem::words::WORDS;
-use token::refusal::DONE;
+use token::refusal::Refusal;
 
 pub mod judging;
 
@@ -20,34 +21,34 @@ const SHORT_QUERY: usize = 64;
 
 const SHORT_WORDS: usize = 121;
 
-// The verdict by a query that was answered with a number and a place when it was read into words.
-fn verdict_by<'a>(
+// The verdict of a query that is read into words, which are zeros and have room for it.
+fn verdict_in_words(
     set: Charset,
-    text: &'a [u8],
-    number: u8,
-    place: usize,
-    words: &'a [u16],
-) -> Verdict
-    requires { number ≡ 0 → Laid words.now }
-    ensures { result ≡ verdict_after number place words.now (sign_of set text.now) }
+    edition: Edition,
+    query: &[u8],
+    text: &[u8],
+    words: &mut [u16],
+) -> Result<Verdict, Refusal>
+    requires { Blank words.old × Fits edition query.now (length words.old) }
+    ensures { as_verdict result ≡ verdict_in set (edition, query.now) text.now }
 {
-    if number != DONE {
-        return judging::refused(number, place);
-    }
-    judging::judge_text(set, text, words)
+    query::words::read_into(edition, query, words)?;
+    judging::judge_text(set, text, Conditions { words })
 }
 
 // Whether a sign meets a query of an edition: the refusals of the query first, then those of the sign. A short query
 // gets fewer words, since clearing them takes time.
-pub fn verdict(set: Charset, edition: Edition, query: &[u8], text: &[u8]) -> Verdict
-    ensures { result ≡ verdict_in set (edition, query.now) text.now }
+pub fn verdict(
+    set: Charset,
+    edition: Edition,
+    query: &[u8],
+    text: &[u8],
+) -> Result<Verdict, Refusal>
+    ensures { as_verdict result ≡ verdict_in set (edition, query.now) text.now }
 {
     if query.len() <= SHORT_QUERY {
-        let mut words = [0u16; SHORT_WORDS];
-        let q = query::words::read_into(edition, query, &mut words);
-        return verdict_by(set, text, q.number, q.place, &words);
+        verdict_in_words(set, edition, query, text, &mut [0; SHORT_WORDS])
+    } else {
+        verdict_in_words(set, edition, query, text, &mut [0; WORDS])
     }
-    let mut words = [0u16; WORDS];
-    let q = query::words::read_into(edition, query, &mut words);
-    verdict_by(set, text, q.number, q.place, &words)
 }

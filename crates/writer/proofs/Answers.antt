@@ -9,9 +9,8 @@ use lib.ListN.{length, take, drop, length-append}
 use lib.Seq.{take-append_seam, drop-append_seam}
 use native.Mathlib.Omega.{arith}
 use Rattle.format.specs.Format.{choose}
-use Rattle.token.specs.declared.Written.{Written}
 use Rattle.token.specs.Refusal.{room_short}
-use Rattle.token.specs.Result.{Result, refusal, done, written_as, written, output, left_text, Leaves, Unchanged}
+use Rattle.token.specs.Result.{Result, refusal, done, Written, written_as, written, output, left_text, Leaves, Unchanged}
 use Rattle.token.proofs.Checks.{Counted}
 use Rattle.token.specs.Wrote.{Wrote}
 use Rattle.writer.proofs.Writes.{wrote_all}

@@ -8,29 +8,23 @@ use lib.ListN.{length}
 use Rattle.charset.specs.Bytes.{digits}
 use Rattle.charset.specs.declared.Charset.{Charset}
 use Rattle.charset.specs.declared.Charset.TheVariants.{Fsw, Swu}
-use Rattle.charset.specs.Tokens.{tokens, parts_of, last_punctuation}
+use Rattle.charset.specs.Tokens.{tokens, last_punctuation}
 use Rattle.charset.proofs.Keys.{null_or_key_size}
 use Rattle.token.specs.Symbol.{any_symbol}
+use Rattle.writer.specs.Keys.{key_parts}
 
 pub first_digit : {n p : ℕ} → 0 < p → n < 16 * p → n / p < 16
 first_digit z h = (div-lt_iff_lt-mul z).1 h
 
-pub other_digits : (n : ℕ) {p k : ℕ} → 0 < p → p ≤ k → n % p < k
-other_digits n z h = omega (arith, mod-lt n z)
-
--- base and turn of a code, both zero for null
+-- base and turn of a code, and what they spell
 pub record Parts (code b t : ℕ) : Type 0 where
   pub base : b < 4096
   pub turn : t < 256
   pub text : 83 ∷ ((digits (256 ∷ 16 ∷ []) 0 0).write b ++ (digits (16 ∷ []) 0 0).write t) ≡ (any_symbol Fsw).write code
 
-pub parts_key : {b t : ℕ} (code : ℕ) → 0 < code → code ≤ 62592 → b ≡ (parts_of code).0 → t ≡ (parts_of code).1 → Parts code b t
-parts_key zero h k x y = absurd (omega arith)
-parts_key (suc n) h k x y = rw (x, y) (record { base = omega arith; turn = omega arith; text = refl })
-
-pub parts_null : {b t : ℕ} (code : ℕ) → code ≤ 0 → b ≡ 0 → t ≡ 0 → Parts code b t
-parts_null zero h x y = rw (x, y) (record { base = omega arith; turn = omega arith; text = refl })
-parts_null (suc n) h x y = absurd (omega arith)
+pub parts_spell : (code : ℕ) → code ≤ 62592 → Parts code (key_parts code).0 (key_parts code).1
+parts_spell zero h = record { base = omega arith; turn = omega arith; text = refl }
+parts_spell (suc n) h = record { base = omega arith; turn = omega arith; text = refl }
 
 pub symbol_length : (set : Charset) (code : ℕ) → (tokens set).symbol_size ≡ length ((any_symbol set).write code)
 symbol_length Fsw code = ap suc (sym (null_or_key_size last_punctuation code))

@@ -1,19 +1,19 @@
 -- The first n values of a function, their text in a format, and a loop that writes it value by value.
 use Prim.Native.Nat.{ℕ, zero, suc, ◌+◌, ◌*◌, ◌≤◌, ◌<◌}
 use mathlib.Core.Path.{◌≡◌, refl, sym, ap, ◌∙◌}
-use mathlib.Core.List.{List, [], ◌∷◌, ◌++◌, append-nil, map, map-append}
+use mathlib.Core.List.{List, [], ◌∷◌, ◌++◌, map, map-append}
 use mathlib.Core.Logic.{⊎_elim}
 use native.Mathlib.Nat.{suc-mul, mul-le-mul_right, eq-or-lt_of_le}
 use native.Mathlib.Numerals.{add-one}
 use native.Mathlib.Omega.{arith}
-use lib.ListN.{length, length-append, get_or, get_or-append}
-use lib.Seq.{ext_get_or, get_or_at}
+use lib.ListN.{length, length-append, take, get_or, get_or-append}
+use lib.Seq.{ext_get_or, get_or_at, get_or-take, length-take-le}
 use Rattle.format.specs.Format.{Format, All, many}
 use Rattle.format.proofs.Many.{write_append}
 use Rattle.format.proofs.Lists.{all_parts}
 use Rattle.token.specs.Wrote.{Wrote}
 use Rattle.writer.proofs.Writes.{wrote_none, wrote_more, wrote_as}
-use Rattle.writer.specs.Arrays.{upto}
+use Rattle.writer.specs.Arrays.{upto, at}
 
 pub upto_length : {A : Type 0} (g : ℕ → A) (n : ℕ) → length (upto g n) ≡ n
 unfolding upto
@@ -46,6 +46,18 @@ upto_is g l d same =
     let e = upto_length g (length l) in
     ext_get_or d (upto g (length l)) l e (λ i h. let k : i < length l = omega arith in upto_at g (length l) i d k ∙ same i k)
 
+-- the first n of a list
+pub upto_take : (l : List ℕ) (n : ℕ) → n ≤ length l → upto (at l) n ≡ take n l
+upto_take l n h =
+    let e = length-take-le n l h in
+    ap (upto (at l)) (sym e) ∙ upto_is (at l) (take n l) 0 (λ i k. let b : i < n = omega arith in sym (get_or-take n l i 0 b))
+
+-- what holds of a list holds of each of its values
+pub all_at : (P : ℕ → Type 0) (l : List ℕ) → All P l → (i : ℕ) → i < length l → P (at l i)
+all_at P [] ok i h = absurd (omega arith)
+all_at P (a ∷ l) ok zero h = ok.0
+all_at P (a ∷ l) ok (suc i) h = all_at P l ok.1 i (omega arith)
+
 -- what holds of the first n holds of each of them
 pub all_upto : {A : Type 0} (P : A → Type 0) (g : ℕ → A) (n : ℕ) → All P (upto g n) → (i : ℕ) → i < n → P (g i)
 unfolding upto
@@ -61,18 +73,12 @@ module _ {A : Type 0} (f : Format A) where
   upto_more g i = rw add-one (sym (write_append f (upto g i) (g i ∷ [])))
 
   -- where every value takes k bytes
+  pub list_size : {k : ℕ} → ((a : A) → length (f.write a) ≡ k) → (l : List A) → length ((many f).write l) ≡ length l * k
+  list_size x [] = omega arith
+  list_size {k} x (a ∷ l) = omega (arith, length-append (f.write a) ((many f).write l), x a, list_size x l, suc-mul (length l) k)
+
   pub upto_size : {k : ℕ} → ((a : A) → length (f.write a) ≡ k) → (g : ℕ → A) (n : ℕ) → length ((many f).write (upto g n)) ≡ n * k
-  unfolding upto
-  upto_size x g zero = omega arith
-  upto_size {k} x g (suc n) =
-      let t = (many f).write (upto g n) in
-      let u = f.write (g n) in
-      let e : length ((many f).write (upto g n ++ (g n ∷ []))) ≡ length (t ++ (u ++ [])) = ap length (write_append f (upto g n) (g n ∷ [])) in
-      let d : length (t ++ (u ++ [])) ≡ length t + length (u ++ []) = length-append t (u ++ []) in
-      let c : length (u ++ []) ≡ length u = ap length (append-nil u) in
-      let h : length t ≡ n * k = upto_size x g n in
-      let y : length u ≡ k = x (g n) in
-      omega (arith, suc-mul n k)
+  upto_size {k} x g n = list_size x (upto g n) ∙ ap (λ m. m * k) (upto_length g n)
 
 -- A loop has written the first i of n values from a up to r, and so made the memory o into p.
 pub record Putting {A : Type 0} (f : Format A) (g : ℕ → A) (n : ℕ) (o p : List ℕ) (a r i : ℕ) : Type 0 where
@@ -91,7 +97,13 @@ module _ {A : Type 0} (f : Format A) (g : ℕ → A) where
   putting_all {n} {i = i} w h =
       let e : i ≡ n = omega arith in
       wrote_as w.wrote (ap (λ k. (many f).write (upto g k)) e)
+  -- where they are a list's
 
+module _ (f : Format ℕ) where
+  pub putting_list : (l : List ℕ) {o p : List ℕ} {a r i : ℕ} → Putting f (at l) (length l) o p a r i → length l ≤ i → Wrote o p a r ((many f).write l)
+  putting_list l w h = wrote_as (putting_all f (at l) w h) (ap (many f).write (upto_is (at l) l 0 (λ i k. refl)))
+
+module _ {A : Type 0} (f : Format A) (g : ℕ → A) where
   -- room for one more
   pub putting_room : {k n : ℕ} {o p : List ℕ} {a r i : ℕ}
       → ((b : A) → length (f.write b) ≡ k) → a + n * k ≤ length o → Putting f g n o p a r i → i < n → r + k ≤ length p

@@ -1,8 +1,10 @@
--- A sign that lies in arrays.
+-- A sign that lies in memory.
 use Rattle.std.specs.Prelude.{ℕ, zero, suc, List, [], ◌∷◌, ◌++◌, get_or, map}
 use Rattle.charset.specs.declared.Charset.{Charset}
 use Rattle.charset.specs.Tokens.{tokens}
 use Rattle.format.specs.Format.{optional, many}
+use Rattle.grammar.specs.declared.Head.{Head}
+use Rattle.grammar.specs.declared.Symbols.{Symbols}
 use Rattle.grammar.specs.Sign.{Spatial, Meaning, prefix, spatial, of_prefix, of_spatial}
 
 -- f 0 to f (n - 1)
@@ -13,13 +15,13 @@ upto f (suc n) = upto f n ++ (f n ∷ [])
 abbrev pub at : List ℕ → ℕ → ℕ
 at l i = get_or l i 0
 
-abbrev pub symbol_at : List ℕ → List ℕ → List ℕ → ℕ → Spatial
-symbol_at codes xs ys i = record { code = at codes i; x = at xs i; y = at ys i }
+abbrev pub symbol_at : Symbols → ℕ → Spatial
+symbol_at symbols i = record { code = at symbols.codes i; x = at symbols.xs i; y = at symbols.ys i }
 
--- the sign of a marker, a maximum and the first p and n places of arrays
-abbrev pub meaning_in : ℕ → ℕ → ℕ → ℕ → ℕ → List ℕ → List ℕ → List ℕ → List ℕ → Meaning
-meaning_in marker x y p n prefix codes xs ys =
-    record { prefix = upto (at prefix) p; marker = marker; x = x; y = y; symbols = upto (symbol_at codes xs ys) n }
+-- the sign of a head and as many of the symbols as it counts
+abbrev pub meaning_in : Head → Symbols → Meaning
+meaning_in head symbols =
+    record { prefix = upto (at symbols.prefix) head.prefix_count; marker = head.marker; x = head.max_x; y = head.max_y; symbols = upto (symbol_at symbols) head.symbol_count }
 
 -- the text of a prefix, and of signbox symbols
 abbrev pub prefix_text : Charset → List ℕ → List ℕ

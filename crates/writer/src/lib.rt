@@ -1,4 +1,4 @@
-// Writing a token, and writing a sign that lies in arrays.
+// Writing a token, and writing a sign that lies in memory.
 #![tactic(auto)]
 
 pub mod arrays;

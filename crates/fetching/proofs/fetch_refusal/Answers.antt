@@ -1,24 +1,42 @@
-use native.Mathlib.Omega.{arith}
-use Rattle.fetching.proofs.Fetches.{first_unended, second_refused, first-refused, few, no-entry, past-entries, an-entry, answered}
+use mathlib.Core.Path.{refl, sym, ap, ◌∙◌}
+use Rattle.lines.proofs.Counts.{count_refused, count_done}
+use Rattle.token.proofs.Handed.{handed}
+use Rattle.fetching.specs.Fetching.{as_refusal}
+use Rattle.fetching.proofs.Fetches.{first_unended, second_unended, first_refused, second_refused, no-entry, past-entries, an-entry, answered}
 use Rattle.fetching.proofs.fetch_refusal.Goals as goal
+use Rattle.fetching.proofs.fetch_refusal.Goals.{then-not-is_ended-via-then-not-is_ended, then-not-is_ended-via-else-not-is_ended+then-not-is_ended-2, then-number-eq0-via-then-number-eq0, then-number-eq0-via-else-number-eq0+then-firsts-seconds}
 
-pub returns-then-unended : goal.returns-then-unended
-returns-then-unended c = answered _ _ _ _ _ (first_unended _ _ _ _ _ c.count_lines-firsts.ensures c.count_lines-seconds.ensures c.if-unended.true) c.refusal_of.ensures
+pub returns-then-not-is_ended : goal.returns-then-not-is_ended
+returns-then-not-is_ended c = elim c.then-not-is_ended.branch [
+  | then-not-is_ended-via-then-not-is_ended w ↦ answered _ _ _ _ _ (first_unended _ _ _ (sym c.is_ended.ensures ∙ w.if-not-is_ended.true)) refl
+  | then-not-is_ended-via-else-not-is_ended+then-not-is_ended-2 w ↦
+      answered _ _ _ _ _ (second_unended _ _ _ (sym c.is_ended.ensures ∙ w.if-not-is_ended.false) (sym w.is_ended-else-not-is_ended.ensures ∙ w.if-not-is_ended-2.true)) refl
+]
 
-pub returns-then-late-ne-DONE : goal.returns-then-late-ne-DONE
-returns-then-late-ne-DONE c = answered _ _ _ _ _ (second_refused _ _ _ _ _ c.count_lines-firsts.ensures c.count_lines-seconds.ensures c.if-unended.false c.if-late-ne-DONE.true) c.refusal_of-then-late-ne-DONE.ensures
+pub returns-in_err-firsts : goal.returns-in_err-firsts
+returns-in_err-firsts c =
+    answered _ _ _ _ _ (first_refused _ _ _ (sym c.if-not-is_ended.ensures) (sym c.if-not-is_ended-2.ensures) (count_refused _ c.count_lines.ensures c.in_err-firsts.was))
+    (ap as_refusal (handed _ _ c.from_residual.ensures.1))
 
-pub returns-then-early-ne-DONE : goal.returns-then-early-ne-DONE
-returns-then-early-ne-DONE c = answered _ _ _ _ _ (first-refused _ _ _ _ _ c.count_lines-firsts.ensures c.count_lines-seconds.ensures c.if-unended.false c.if-late-ne-DONE.false c.if-early-ne-DONE.true) c.refusal_of-then-early-ne-DONE.ensures
+pub returns-in_err-seconds : goal.returns-in_err-seconds
+returns-in_err-seconds c =
+    let firsts = count_done _ c.count_lines.ensures c.in_ok-firsts.was in
+    answered _ _ _ _ _ (second_refused _ _ _ (sym c.if-not-is_ended.ensures) (sym c.if-not-is_ended-2.ensures) firsts (count_refused _ c.count_lines-2.ensures c.in_err-seconds.was))
+    (ap as_refusal (handed _ _ c.from_residual-in_err-seconds.ensures.1))
 
 pub returns-then-number-eq0 : goal.returns-then-number-eq0
-returns-then-number-eq0 c = answered _ _ _ _ _ (no-entry _ _ _ _ _ c.count_lines-firsts.ensures c.count_lines-seconds.ensures c.if-unended.false c.if-late-ne-DONE.false c.if-early-ne-DONE.false c.if-number-eq0.true) c.refusal_of-then-number-eq0.ensures
-
-pub overflow_add-firsts : goal.overflow_add-firsts
-overflow_add-firsts c = omega (arith, few c.args.first.now c.args.second.now c.args.number _ _ c.count_lines-firsts.ensures c.count_lines-seconds.ensures c.if-unended.false c.if-late-ne-DONE.false c.if-early-ne-DONE.false)
-
-pub returns-then-firsts-seconds : goal.returns-then-firsts-seconds
-returns-then-firsts-seconds c = answered _ _ _ _ _ (past-entries _ _ _ _ _ c.count_lines-firsts.ensures c.count_lines-seconds.ensures c.if-unended.false c.if-late-ne-DONE.false c.if-early-ne-DONE.false c.if-number-eq0.false c.if-firsts-seconds.true) c.refusal_of-then-firsts-seconds.ensures
+returns-then-number-eq0 c =
+    let firsts = count_done _ c.count_lines.ensures c.in_ok-firsts.was in
+    let seconds = count_done _ c.count_lines-2.ensures c.in_ok-seconds.was in
+    elim c.then-number-eq0.branch [
+      | then-number-eq0-via-then-number-eq0 w ↦
+          answered _ _ _ _ _ (no-entry _ _ _ (sym c.if-not-is_ended.ensures) (sym c.if-not-is_ended-2.ensures) firsts seconds w.if-number-eq0.true) refl
+      | then-number-eq0-via-else-number-eq0+then-firsts-seconds w ↦
+          answered _ _ _ _ _ (past-entries _ _ _ (sym c.if-not-is_ended.ensures) (sym c.if-not-is_ended-2.ensures) firsts seconds w.if-number-eq0.false w.if-firsts-seconds.true) refl
+    ]
 
 pub returns : goal.returns
-returns c = answered _ _ _ _ _ (an-entry _ _ _ _ _ c.count_lines-firsts.ensures c.count_lines-seconds.ensures c.if-unended.false c.if-late-ne-DONE.false c.if-early-ne-DONE.false c.if-number-eq0.false c.if-firsts-seconds.false) c.refusal_of-2.ensures
+returns c =
+    let firsts = count_done _ c.count_lines.ensures c.in_ok-firsts.was in
+    let seconds = count_done _ c.count_lines-2.ensures c.in_ok-seconds.was in
+    answered _ _ _ _ _ (an-entry _ _ _ (sym c.if-not-is_ended.ensures) (sym c.if-not-is_ended-2.ensures) firsts seconds c.if-number-eq0.false c.if-firsts-seconds.false) refl

@@ -1,29 +1,24 @@
 use mathlib.Core.Path.{◌∙◌}
+use Rattle.token.proofs.Handed.{handed}
 use Rattle.sign.proofs.Transcribing.{lies}
-use Rattle.geometry.specs.Geometry.{answered}
-use Rattle.geometry.proofs.Answering.{boxes_unread, boxes-unmeasured, boxes-done}
+use Rattle.geometry.proofs.Answering.{refused_exact, boxes_unread, boxes_unmeasured, boxes_done}
 use Rattle.geometry.proofs.boxes.Goals as goal
 
-pub returns-then-number-ne-DONE : goal.returns-then-number-ne-DONE
-returns-then-number-ne-DONE c =
-    let a = c.args in
-    record { answer = c.no_bounds.ensures.0 ∙ boxes_unread a.set a.text.now _ _ _ _ _ c.read_into-h.ensures c.if-number-ne-DONE.true a.sizes.now; exact = c.no_bounds.ensures.1 }
+pub returns-in_err-head : goal.returns-in_err-head
+returns-in_err-head c =
+    rw (handed _ _ c.from_residual.ensures.1) (record { answer = boxes_unread _ _ _ _ c.read_into.ensures _ c.in_err-head.was _; exact = refused_exact _ })
 
-pub measure-m-requires : goal.measure-m-requires
-measure-m-requires c =
-    let l = lies c.args.set c.args.text.now _ _ _ _ _ c.read_into-h.ensures c.if-number-ne-DONE.false in
-    (l.codes_length, l.xs_length, l.ys_length, l.symbols_most, l.valid.symbols)
+pub measure-requires : goal.measure-requires
+measure-requires c = let l = lies _ _ _ _ c.read_into.ensures _ c.in_ok-head.was in (l.symbols_most, l.valid.symbols)
 
-pub returns-then-refusal-ne-DONE : goal.returns-then-refusal-ne-DONE
-returns-then-refusal-ne-DONE c =
-    let a = c.args in
-    record { answer = c.no_bounds-then-refusal-ne-DONE.ensures.0 ∙ boxes-unmeasured a.set a.text.now _ _ _ _ _ c.read_into-h.ensures c.if-number-ne-DONE.false a.sizes.now _ c.measure-m.ensures c.if-refusal-ne-DONE.true; exact = c.no_bounds-then-refusal-ne-DONE.ensures.1 }
+pub returns-in_err-groups : goal.returns-in_err-groups
+returns-in_err-groups c =
+    rw (handed _ _ c.from_residual-in_err-groups.ensures.1)
+    (record { answer = boxes_unmeasured _ _ _ _ c.read_into.ensures _ c.in_ok-head.was _ _ c.measure.ensures _ c.in_err-groups.was; exact = refused_exact _ })
 
 pub returns : goal.returns
 returns c =
-    let a = c.args in record {
-      answer = c.answer.ensures.is
-          ∙ (λ i. answered 0 0 c.measure-m.result.groups (c.doubled_centre-doubled.ensures.is i))
-          ∙ boxes-done a.set a.text.now _ _ _ _ _ c.read_into-h.ensures c.if-number-ne-DONE.false a.sizes.now _ c.measure-m.ensures c.if-refusal-ne-DONE.false;
-      exact = c.answer.ensures.exact;
+    record {
+      answer = c.bounds_with.ensures.is ∙ boxes_done _ _ _ _ c.read_into.ensures _ c.in_ok-head.was _ _ c.measure.ensures _ c.in_ok-groups.was;
+      exact = c.bounds_with.ensures.exact;
     }

@@ -1,7 +1,9 @@
-use Rattle.report.specs.Report.{sorted_text, sorted_output_of}
+use Rattle.writer.proofs.Writes.{wrote_as}
+use Rattle.report.specs.Report.{sorted_output_of}
+use Rattle.report.proofs.Searching.{as_sorted}
 use Rattle.report.proofs.Splitting.{answered}
 use Rattle.report.proofs.report_sorted.Goals as goal
 
 pub returns : goal.returns
 unfolding sorted_output_of
-returns c = answered sorted_text _ c.query_in.ensures c.dictionary_in.ensures c.search_sorted.ensures
+returns c = answered (wrote_as c.report_by.ensures (as_sorted _ _))

@@ -1,4 +1,4 @@
-use Prim.Native.Nat.{◌+◌, ◌-◌, ◌<◌}
+use Prim.Native.Nat.{◌+◌, ◌<◌}
 use mathlib.Core.Path.{refl}
 use native.Mathlib.Omega.{arith}
 use lib.ListN.{length}
@@ -9,50 +9,43 @@ use Rattle.runs.proofs.narrow_each.Goals as goal
 
 -- there is a query to be asked, and it lies here
 
-pub loop-made-init : goal.loop-made-init
-loop-made-init c = (running_start _ _ _ _, refl)
+pub loop-init : goal.loop-init
+loop-init c = (running_start _ _ _ _, refl)
 
 pub line_end-end-requires : goal.line_end-end-requires
-line_end-end-requires c = omega (arith, start_within _ _ _ (omega arith) (omega (arith, c.loop-made-test.true, c.count-calls.ensures)) c.loop-made.invariant.0.here)
+line_end-end-requires c = omega (arith, start_within _ _ _ (omega arith) (omega (arith, c.loop-test.true, c.count-end.ensures)) c.loop.invariant.0.here)
 
 pub slice_bounds-line-count : goal.slice_bounds-line-count
 slice_bounds-line-count c =
-    let asked : c.loop-made.made < length (lines c.args.queries.now) = omega (arith, c.count-calls.ensures) in
-    let here : Line c.args.queries.now (c.loop-made.made + 1) c.loop-made.start c.line_end-end.result = running_line c.loop-made.invariant.0 (asked) _ c.line_end-end.ensures in
+    let here : Line c.args.queries.now (c.loop.counter + 1) c.loop.start c.line_end-end.result = running_line c.loop.invariant.0 (omega (arith, c.count-end.ensures)) _ c.line_end-end.ensures in
     omega (arith, here.low)
 
 pub slice_bounds-line-start : goal.slice_bounds-line-start
 slice_bounds-line-start c =
-    let asked : c.loop-made.made < length (lines c.args.queries.now) = omega (arith, c.count-calls.ensures) in
-    let here : Line c.args.queries.now (c.loop-made.made + 1) c.loop-made.start c.line_end-end.result = running_line c.loop-made.invariant.0 (asked) _ c.line_end-end.ensures in
+    let here : Line c.args.queries.now (c.loop.counter + 1) c.loop.start c.line_end-end.result = running_line c.loop.invariant.0 (omega (arith, c.count-end.ensures)) _ c.line_end-end.ensures in
     omega (arith, here.low)
 
 pub slice_bounds-line-end : goal.slice_bounds-line-end
 slice_bounds-line-end c =
-    let asked : c.loop-made.made < length (lines c.args.queries.now) = omega (arith, c.count-calls.ensures) in
-    let here : Line c.args.queries.now (c.loop-made.made + 1) c.loop-made.start c.line_end-end.result = running_line c.loop-made.invariant.0 (asked) _ c.line_end-end.ensures in
+    let here : Line c.args.queries.now (c.loop.counter + 1) c.loop.start c.line_end-end.result = running_line c.loop.invariant.0 (omega (arith, c.count-end.ensures)) _ c.line_end-end.ensures in
     omega (arith, here.high)
 
-pub overflow_add-dropped : goal.overflow_add-dropped
-overflow_add-dropped c =
-    let asked : c.loop-made.made < length (lines c.args.queries.now) = omega (arith, c.count-calls.ensures) in
-    let here : Line c.args.queries.now (c.loop-made.made + 1) c.loop-made.start c.line_end-end.result = running_line c.loop-made.invariant.0 (asked) _ c.line_end-end.ensures in
-    omega (arith, running-dropped c.loop-made.invariant.0 (asked) (here) _ _ c.edition_of-edition.ensures c.query_of.ensures c.narrow-answer.ensures, c.requires)
+pub after_call-left-requires : goal.after_call-left-requires
+after_call-left-requires c =
+    let made : c.loop.counter < length (lines c.args.queries.now) = omega (arith, c.count-end.ensures) in
+    let here : Line c.args.queries.now (c.loop.counter + 1) c.loop.start c.line_end-end.result = running_line c.loop.invariant.0 made _ c.line_end-end.ensures in
+    omega (arith, running-dropped c.loop.invariant.0 made here _ _ c.asked-edition.ensures c.narrow.ensures, c.requires)
 
 pub overflow_add-start : goal.overflow_add-start
 overflow_add-start c =
-    let asked : c.loop-made.made < length (lines c.args.queries.now) = omega (arith, c.count-calls.ensures) in
-    let here : Line c.args.queries.now (c.loop-made.made + 1) c.loop-made.start c.line_end-end.result = running_line c.loop-made.invariant.0 (asked) _ c.line_end-end.ensures in
+    let here : Line c.args.queries.now (c.loop.counter + 1) c.loop.start c.line_end-end.result = running_line c.loop.invariant.0 (omega (arith, c.count-end.ensures)) _ c.line_end-end.ensures in
     omega (arith, here.high)
 
-pub loop-made-preserved : goal.loop-made-preserved
-loop-made-preserved c =
-    let asked : c.loop-made.made < length (lines c.args.queries.now) = omega (arith, c.count-calls.ensures) in
-    let here : Line c.args.queries.now (c.loop-made.made + 1) c.loop-made.start c.line_end-end.result = running_line c.loop-made.invariant.0 (asked) _ c.line_end-end.ensures in
-    (running_more c.loop-made.invariant.0 (asked) (here) _ _ c.edition_of-edition.ensures c.query_of.ensures c.narrow-answer.ensures _ c.next_count-kept.ensures, omega arith)
-
-pub shape_of-list : goal.shape_of-list
-shape_of-list c = c.loop-made.invariant.1
+pub loop-preserved : goal.loop-preserved
+loop-preserved c =
+    let made : c.loop.counter < length (lines c.args.queries.now) = omega (arith, c.count-end.ensures) in
+    let here : Line c.args.queries.now (c.loop.counter + 1) c.loop.start c.line_end-end.result = running_line c.loop.invariant.0 made _ c.line_end-end.ensures in
+    (rw c.after_call-left.ensures (running_more c.loop.invariant.0 made here _ _ c.asked-edition.ensures c.narrow.ensures), omega arith)
 
 pub returns : goal.returns
-returns c = running_end c.loop-made.invariant.0 (omega (arith, c.count-calls.ensures, c.loop-made-test.false))
+returns c = running_end c.loop.invariant.0 (omega (arith, c.count-end.ensures, c.loop-test.false))

@@ -1,13 +1,14 @@
+use Rattle.token.proofs.Handed.{handed}
 use Rattle.sign.proofs.Transcribing.{lies, transcribed, transcribed_refused}
 use Rattle.sign.proofs.transcribe.Goals as goal
 
-pub returns-then-number-ne-DONE : goal.returns-then-number-ne-DONE
-returns-then-number-ne-DONE c = transcribed_refused _ _ _ _ _ _ _ _ c.read_into-h.ensures c.if-number-ne-DONE.true
+pub returns-in_err-read : goal.returns-in_err-read
+returns-in_err-read c = rw (handed _ _ c.from_residual.ensures.1) (transcribed_refused _ _ _ _ c.read_into.ensures _ _ c.in_err-read.was)
 
 pub write_sign-requires : goal.write_sign-requires
 write_sign-requires c =
-    let l = lies c.args.set c.args.text.now _ _ _ _ _ c.read_into-h.ensures c.if-number-ne-DONE.false in
-    (l.array_length, l.codes_length, l.xs_length, l.ys_length, l.prefix_most, l.symbols_most, l.valid)
+    let l = lies _ _ _ _ c.read_into.ensures _ c.in_ok-read.was in
+    (l.prefix_most, l.symbols_most, l.valid)
 
 pub returns : goal.returns
-returns c = transcribed _ _ _ _ _ _ _ c.read_into-h.ensures c.if-number-ne-DONE.false _ _ _ _ c.other_set.ensures c.write_sign.ensures
+returns c = transcribed _ _ _ _ c.read_into.ensures _ c.in_ok-read.was _ _ _ _ c.other_set.ensures c.write_sign.ensures

@@ -11,4 +11,4 @@ pub returns-then-out-size : goal.returns-then-out-size
 returns-then-out-size c = answers_short _ (code_fine _ _ c.if-code-gt-LAST_CODE.false) (c.symbol_size-size.ensures ∙ symbol_length c.args.set c.args.code) c.if-out-size.true
 
 pub returns : goal.returns
-returns c = answers_done (code_fine _ _ c.if-code-gt-LAST_CODE.false) c.put_symbol-length.ensures
+returns c = answers_done (code_fine _ _ c.if-code-gt-LAST_CODE.false) c.put_symbol.ensures

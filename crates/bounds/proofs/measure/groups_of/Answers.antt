@@ -1,4 +1,4 @@
-use mathlib.Core.Path.{◌≡◌, sym, ap, ◌∙◌}
+use mathlib.Core.Path.{sym, ap, ◌∙◌}
 use native.Mathlib.Omega.{arith}
 use Rattle.grammar.specs.Sign.{ValidSymbol}
 use Rattle.writer.specs.Arrays.{upto, symbol_at}
@@ -10,33 +10,20 @@ use Rattle.bounds.proofs.measure.groups_of.Goals as goal
 
 pub loop-i-init : goal.loop-i-init
 unfolding upto
-loop-i-init c = (omega arith, c.none-groups.ensures ∙ groups_none _)
+loop-i-init c = c.none-groups.ensures ∙ groups_none _
 
 pub symbol_box-b-requires : goal.symbol_box-b-requires
-symbol_box-b-requires c =
-    let a = c.args in
-    (c.requires.3, all_upto ValidSymbol (symbol_at a.codes.now a.xs.now a.ys.now) a.n c.requires.5 c.loop-i.i c.loop-i-test.true)
+symbol_box-b-requires c = all_upto ValidSymbol (symbol_at c.args.symbols.now) c.args.n c.requires.1 c.loop-i.i (omega arith)
 
 pub with_symbol-groups-requires : goal.with_symbol-groups-requires
-with_symbol-groups-requires c =
-    let a = c.args in
-    (all_upto ValidSymbol (symbol_at a.codes.now a.xs.now a.ys.now) a.n c.requires.5 c.loop-i.i c.loop-i-test.true).0.0
+with_symbol-groups-requires c = (all_upto ValidSymbol (symbol_at c.args.symbols.now) c.args.n c.requires.1 c.loop-i.i (omega arith)).0.0
 
 pub loop-i-preserved : goal.loop-i-preserved
 loop-i-preserved c =
-    let a = c.args in
-    let sizes = a.sizes.now in
-    let g = symbol_at a.codes.now a.xs.now a.ys.now in
-    let i = c.loop-i.i in (
-      omega arith,
-      c.with_symbol-groups.ensures
-          ∙ (λ j. with_symbol (c.loop-i.invariant.1 j) (g i).code (c.symbol_box-b.ensures j))
-          ∙ groups_more sizes (upto g i) (g i)
-          ∙ ap (groups_of sizes) (sym (upto_more g i)),
-    )
-
-pub returns : goal.returns
-returns c =
-    let n = c.args.n in
-    let e : c.loop-i.i ≡ n = omega arith in
-    rw (← e) c.loop-i.invariant.1
+    let sizes = c.args.sizes.now in
+    let g = symbol_at c.args.symbols.now in
+    let i = c.loop-i.i in
+    c.with_symbol-groups.ensures
+    ∙ (λ j. with_symbol (c.loop-i.invariant j) (g i).code (c.symbol_box-b.ensures j))
+    ∙ groups_more sizes (upto g i) (g i)
+    ∙ ap (groups_of sizes) (sym (upto_more g i))

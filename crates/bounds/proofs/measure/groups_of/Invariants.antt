@@ -1,11 +1,7 @@
-use Prim.Native.Nat.{◌≤◌, ◌-◌}
 use mathlib.Core.Path.{◌≡◌}
 use Rattle.writer.specs.Arrays.{upto, symbol_at}
 use Rattle.bounds.specs.Boxes.{groups_of}
 use Rattle.bounds.proofs.measure.groups_of.Given as goal
 
 abbrev pub invariant-loop-i : goal.invariant-loop-i
-invariant-loop-i l = (l.i ≤ l.n) × (l.groups ≡ groups_of l.sizes (upto (symbol_at l.codes l.xs l.ys) l.i))
-
-abbrev pub decreases-loop-i : goal.decreases-loop-i
-decreases-loop-i l = l.n - l.i
+invariant-loop-i l = l.groups ≡ groups_of l.sizes (upto (symbol_at l.symbols) l.i)

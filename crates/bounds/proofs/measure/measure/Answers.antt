@@ -1,31 +1,30 @@
-use mathlib.Core.Path.{ap, sym, ◌∙◌}
+use Rattle.std.proofs.Common.{ap, sym, ◌∙◌, take, arith, position}
 use Rattle.token.specs.Result.{done}
-use Rattle.bounds.specs.Inner.{measured_as}
-use Rattle.bounds.proofs.Measuring.{symbols_codes, measured_7, measured_9, measured_8, measured_done}
+use Rattle.writer.specs.Arrays.{upto, symbol_at}
+use Rattle.bounds.specs.Boxes.{groups_of}
+use Rattle.bounds.proofs.Measuring.{codes_in_range, is_unsized, measured_7, measured_9, measured_8, measured_done}
 use Rattle.bounds.proofs.measure.measure.Goals as goal
 
-pub returns-then-sizes-ne-SIZES : goal.returns-then-sizes-ne-SIZES
-returns-then-sizes-ne-SIZES c =
-    let a = c.args in
-    c.unmeasured.ensures ∙ ap measured_as (sym (measured_7 a.sizes.now a.codes.now a.xs.now a.ys.now a.n c.if-sizes-ne-SIZES.true))
+pub returns-in_default : goal.returns-in_default
+returns-in_default c = sym (measured_7 c.args.sizes.now c.args.symbols.now c.args.n c.in_default.ensures.cases)
 
 pub returns-then-n-eq0 : goal.returns-then-n-eq0
-returns-then-n-eq0 c =
-    let a = c.args in
-    c.unmeasured-then-n-eq0.ensures ∙ ap measured_as (sym (measured_9 a.sizes.now a.codes.now a.xs.now a.ys.now a.n c.if-sizes-ne-SIZES.false c.if-n-eq0.true))
+returns-then-n-eq0 c = sym (measured_9 c.args.sizes.now c.args.symbols.now c.args.n c.in-Some.ensures.cases.long c.if-n-eq0.true)
 
-pub first_unsized-first-requires : goal.first_unsized-first-requires
-first_unsized-first-requires c =
-    let a = c.args in
-    (c.requires.0, c.if-sizes-ne-SIZES.false, c.requires.3, symbols_codes a.codes.now a.xs.now a.ys.now a.n c.requires.4)
+pub first_unsized-requires : goal.first_unsized-requires
+first_unsized-requires c = codes_in_range c.args.symbols.now c.args.n (omega arith) c.requires.1
 
-pub returns-then-first-ne0 : goal.returns-then-first-ne0
-returns-then-first-ne0 c =
+pub returns-in-Some-first_unsized : goal.returns-in-Some-first_unsized
+returns-in-Some-first_unsized c =
     let a = c.args in
-    c.unmeasured-then-first-ne0.ensures ∙ ap measured_as (sym (measured_8 a.sizes.now a.codes.now a.xs.now a.ys.now a.n c.if-sizes-ne-SIZES.false c.if-n-eq0.false _ c.first_unsized-first.ensures c.if-first-ne0.true))
+    let array = c.in-Some.ensures.cases in
+    let is = c.first_unsized.ensures.place ∙ ap (λ s. position (is_unsized s) (take a.n a.symbols.now.codes)) array.same in
+    sym (measured_8 a.sizes.now a.symbols.now a.n array.long c.if-n-eq0.false (omega arith) _ is _ c.in-Some-first_unsized.is)
 
 pub returns : goal.returns
 returns c =
     let a = c.args in
-    (λ i. measured_as (done (c.groups_of-groups.ensures i)))
-    ∙ ap measured_as (sym (measured_done a.sizes.now a.codes.now a.xs.now a.ys.now a.n c.if-sizes-ne-SIZES.false c.if-n-eq0.false _ c.first_unsized-first.ensures c.if-first-ne0.false))
+    let array = c.in-Some.ensures.cases in
+    let is = c.first_unsized.ensures.place ∙ ap (λ s. position (is_unsized s) (take a.n a.symbols.now.codes)) array.same in
+    let groups = c.groups_of.ensures ∙ ap (λ s. groups_of s (upto (symbol_at a.symbols.now) a.n)) array.same in
+    ap done groups ∙ sym (measured_done a.sizes.now a.symbols.now a.n array.long c.if-n-eq0.false (omega arith) _ is c.in_default-first_unsized.is)

@@ -1,10 +1,9 @@
+use Rattle.std.proofs.Common.{rules}
 use Rattle.entries.proofs.Meeting.{not_listed, is_listed}
-use mathlib.Core.Path.{ap}
-use mathlib.Core.Bool.{not}
 use Rattle.entries.proofs.finding.judge_listed.Goals as goal
 
 pub returns-then-not-has : goal.returns-then-not-has
-returns-then-not-has c = not_listed _ _ _ _ _ c.has.ensures (ap not c.if-not-has.true)
+returns-then-not-has c = not_listed _ _ _ _ _ c.has.ensures c.if-not-has.true
 
 pub returns : goal.returns
-returns c = is_listed _ _ _ _ _ c.has.ensures (ap not c.if-not-has.false) c.meets_text.ensures
+returns c = is_listed _ _ _ _ _ c.has.ensures c.if-not-has.false _ c.meets_text.ensures _ _ c.map_err.ensures.cases (λ d x p. search rules)

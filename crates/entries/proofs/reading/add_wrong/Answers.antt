@@ -1,51 +1,43 @@
 use Prim.Native.Nat.{◌+◌}
-use mathlib.Core.Path.{sym, ◌∙◌}
 use native.Mathlib.Omega.{arith}
 use Rattle.lines.proofs.Starts.{Line}
+use Rattle.entries.proofs.Lines.{unread_unlisted, unread_sign, unread_wrong}
 use Rattle.entries.proofs.Walking.{walking_start, walking_within, walking_line, walking_room, walking_free, walking-in, walking-out, walking_end}
-use Rattle.entries.proofs.Lines.{wrong_at_lem}
 use Rattle.entries.proofs.reading.add_wrong.Goals as goal
-use Rattle.entries.proofs.reading.add_wrong.Goals.{else-is_wrong, then-is_wrong}
+use Rattle.entries.proofs.reading.add_wrong.Goals.{then-has+then-not-is_sign, else-has, else-has-via-then-has+else-not-is_sign, else-has-via-else-has}
 
 pub loop-passed-init : goal.loop-passed-init
-loop-passed-init c = walking_start _ _ _ _ c.requires.0 c.requires.2 c.requires.3
+loop-passed-init c = walking_start _ _ _ _ c.args.book.counted c.requires.1 c.requires.2
 
 pub line_end-end-requires : goal.line_end-end-requires
 line_end-end-requires c = omega (arith, walking_within c.loop-passed.invariant c.loop-passed-test.true)
 
-pub slice_bounds-is_wrong-count : goal.slice_bounds-is_wrong-count
-slice_bounds-is_wrong-count c =
-    let here : Line c.args.dict.now (c.loop-passed.passed + 1) c.loop-passed.at c.line_end-end.result = walking_line c.loop-passed.invariant c.loop-passed-test.true _ c.line_end-end.ensures in
-    omega (arith, here.low)
-
-pub slice_bounds-is_wrong-start : goal.slice_bounds-is_wrong-start
-slice_bounds-is_wrong-start c =
-    let here : Line c.args.dict.now (c.loop-passed.passed + 1) c.loop-passed.at c.line_end-end.result = walking_line c.loop-passed.invariant c.loop-passed-test.true _ c.line_end-end.ensures in
-    omega (arith, here.low)
-
-pub slice_bounds-is_wrong-end : goal.slice_bounds-is_wrong-end
-slice_bounds-is_wrong-end c =
-    let here : Line c.args.dict.now (c.loop-passed.passed + 1) c.loop-passed.at c.line_end-end.result = walking_line c.loop-passed.invariant c.loop-passed-test.true _ c.line_end-end.ensures in
+pub slice_bounds-is_sign-end : goal.slice_bounds-is_sign-end
+slice_bounds-is_sign-end c =
+    let here : Line c.args.book.dict.now (c.loop-passed.passed + 1) c.loop-passed.at c.line_end-end.result = walking_line c.loop-passed.invariant c.loop-passed-test.true _ c.line_end-end.ensures in
     omega (arith, here.high)
-
-pub is_wrong-requires : goal.is_wrong-requires
-is_wrong-requires c = omega (arith, c.requires.1)
 
 pub add-requires : goal.add-requires
 add-requires c = (walking_room c.loop-passed.invariant c.loop-passed-test.true, walking_free c.loop-passed.invariant)
 
 pub overflow_add-at : goal.overflow_add-at
 overflow_add-at c =
-    let here : Line c.args.dict.now (c.loop-passed.passed + 1) c.loop-passed.at c.line_end-end.result = walking_line c.loop-passed.invariant c.loop-passed-test.true _ c.line_end-end.ensures in
+    let here : Line c.args.book.dict.now (c.loop-passed.passed + 1) c.loop-passed.at c.line_end-end.result = walking_line c.loop-passed.invariant c.loop-passed-test.true _ c.line_end-end.ensures in
     omega (arith, here.high)
 
 pub loop-passed-preserved : goal.loop-passed-preserved
 loop-passed-preserved c =
-    let here : Line c.args.dict.now (c.loop-passed.passed + 1) c.loop-passed.at c.line_end-end.result = walking_line c.loop-passed.invariant c.loop-passed-test.true _ c.line_end-end.ensures in
-    (elim c.if-is_wrong.branch [ then-is_wrong w ↦ rw (w.bits-is, w.add.ensures) (walking-in c.loop-passed.invariant c.loop-passed-test.true (here) (sym (wrong_at_lem _ _ _ (here) c.is_wrong.ensures) ∙ w.if-is_wrong.true)) | else-is_wrong w ↦ rw w.bits-is (walking-out c.loop-passed.invariant c.loop-passed-test.true (here) (sym (wrong_at_lem _ _ _ (here) c.is_wrong.ensures) ∙ w.if-is_wrong.false)) ])
-
-pub shape_of-bits : goal.shape_of-bits
-shape_of-bits c = c.loop-passed.invariant.long
+    let here : Line c.args.book.dict.now (c.loop-passed.passed + 1) c.loop-passed.at c.line_end-end.result = walking_line c.loop-passed.invariant c.loop-passed-test.true _ c.line_end-end.ensures in
+    elim c.if-has.branch [
+      | then-has+then-not-is_sign w ↦
+          rw (w.wrong-is, w.add.ensures) (walking-in c.loop-passed.invariant c.loop-passed-test.true here (unread_wrong _ _ _ here c.has.ensures w.if-has.true w.is_sign.ensures w.if-not-is_sign.true))
+      | else-has w ↦
+          rw w.wrong-is (walking-out c.loop-passed.invariant c.loop-passed-test.true here
+          (elim w.else-has.branch [
+            | else-has-via-then-has+else-not-is_sign v ↦ unread_sign c.args.book.set _ _ here c.has.ensures v.if-has.true v.is_sign.ensures v.if-not-is_sign.false
+            | else-has-via-else-has v ↦ unread_unlisted c.args.book.set _ _ here c.has.ensures v.if-has.false
+          ]))
+    ]
 
 pub returns : goal.returns
-returns c = record { long = c.loop-passed.invariant.long; holds = walking_end c.loop-passed.invariant c.loop-passed-test.false }
+returns c = record { long = c.loop-passed.invariant.long; holds = walking_end c.loop-passed.invariant (omega arith) c.loop-passed-test.false }

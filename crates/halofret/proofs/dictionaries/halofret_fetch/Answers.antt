@@ -1,28 +1,28 @@
-use mathlib.Core.Path.{◌∙◌}
+use mathlib.Core.Path.{refl, ◌∙◌}
 use native.Mathlib.Omega.{arith}
 use Rattle.fetching.proofs.Fetches.{Accepted, accepted}
 use Rattle.halofret.proofs.Finding.{fetch_refused, fetch_first, fetch_second}
 use Rattle.halofret.proofs.dictionaries.halofret_fetch.Goals as goal
 
-pub returns-then-refused-ne-DONE : goal.returns-then-refused-ne-DONE
-returns-then-refused-ne-DONE c = fetch_refused _ _ _ _ c.fetch_refusal-refused.ensures c.if-refused-ne-DONE.true
+pub returns-in-Err : goal.returns-in-Err
+returns-in-Err c = c.refused.ensures ∙ fetch_refused _ _ _ c.in-Err.e c.in-Err.ensures
 
 pub line_numbers-requires : goal.line_numbers-requires
 line_numbers-requires c =
-    let entry : Accepted c.args.first.now c.args.second.now c.args.number = accepted _ _ _ _ c.fetch_refusal-refused.ensures c.if-refused-ne-DONE.false in
-    let a = entry in omega arith
+    let a : Accepted c.args.first.now c.args.second.now c.args.number = accepted _ _ _ _ c.in_default.ensures refl in
+    omega arith
 
 pub returns-then-number-firsts : goal.returns-then-number-firsts
 returns-then-number-firsts c =
-    let entry : Accepted c.args.first.now c.args.second.now c.args.number = accepted _ _ _ _ c.fetch_refusal-refused.ensures c.if-refused-ne-DONE.false in
-    c.line_numbers.ensures ∙ fetch_first _ _ _ (entry) _ c.count-firsts.ensures c.if-number-firsts.true
+    let a : Accepted c.args.first.now c.args.second.now c.args.number = accepted _ _ _ _ c.in_default.ensures refl in
+    c.line_numbers.ensures ∙ fetch_first _ _ _ a _ c.count-firsts.ensures c.if-number-firsts.true
 
-pub line_numbers-requires-2 : goal.line_numbers-requires-2
-line_numbers-requires-2 c =
-    let entry : Accepted c.args.first.now c.args.second.now c.args.number = accepted _ _ _ _ c.fetch_refusal-refused.ensures c.if-refused-ne-DONE.false in
-    let a = entry in omega arith
+pub line_numbers-requires-else-number-firsts : goal.line_numbers-requires-else-number-firsts
+line_numbers-requires-else-number-firsts c =
+    let a : Accepted c.args.first.now c.args.second.now c.args.number = accepted _ _ _ _ c.in_default.ensures refl in
+    omega arith
 
-pub returns : goal.returns
-returns c =
-    let entry : Accepted c.args.first.now c.args.second.now c.args.number = accepted _ _ _ _ c.fetch_refusal-refused.ensures c.if-refused-ne-DONE.false in
-    c.line_numbers-2.ensures ∙ fetch_second _ _ _ (entry) _ c.count-firsts.ensures c.if-number-firsts.false
+pub returns-else-number-firsts : goal.returns-else-number-firsts
+returns-else-number-firsts c =
+    let a : Accepted c.args.first.now c.args.second.now c.args.number = accepted _ _ _ _ c.in_default.ensures refl in
+    c.line_numbers-else-number-firsts.ensures ∙ fetch_second _ _ _ a _ c.count-firsts.ensures c.if-number-firsts.false

@@ -1,24 +1,18 @@
 use native.Mathlib.Omega.{arith}
 use Rattle.writer.proofs.Writes.{wrote_none}
 use Rattle.keylines.specs.Text.{entry_lines}
-use Rattle.keylines.proofs.TextWrites.{entry_short, entries_more, entries_all}
+use Rattle.keylines.proofs.TextWrites.{entry_short, entries_more}
 use Rattle.keylines.proofs.line.put_entries.Goals as goal
 
-pub loop-k-init : goal.loop-k-init
+pub loop-entry-init : goal.loop-entry-init
 unfolding entry_lines
-loop-k-init c = (omega arith, omega arith, wrote_none _ _ (omega arith))
-
-pub overflow_cast-list : goal.overflow_cast-list
-overflow_cast-list c = omega (arith, c.type_inv.list c.loop-k.k)
+loop-entry-init c = (omega arith, wrote_none _ _ (omega arith))
 
 pub put_line-next-requires : goal.put_line-next-requires
-put_line-next-requires c = omega (arith, entry_short _ (c.type_inv.list c.loop-k.k).fits)
+put_line-next-requires c = omega (arith, entry_short c.from.result (rw c.from.ensures (c.type_inv.list c.loop-entry.entry-index).fits))
 
-pub loop-k-preserved : goal.loop-k-preserved
-loop-k-preserved c = (omega arith, omega (arith, entry_short _ (c.type_inv.list c.loop-k.k).fits), entries_more _ _ c.loop-k.invariant.2 c.loop-k-test.true c.put_line-next.ensures)
-
-pub shape_of-out : goal.shape_of-out
-shape_of-out c = c.loop-k.invariant.2.same
-
-pub returns : goal.returns
-returns c = entries_all _ _ c.loop-k.invariant.2 c.loop-k-test.false
+pub loop-entry-preserved : goal.loop-entry-preserved
+loop-entry-preserved c = (
+  omega (arith, entry_short c.from.result (rw c.from.ensures (c.type_inv.list c.loop-entry.entry-index).fits)),
+  entries_more c.args.list.now _ c.loop-entry.invariant.1 c.loop-entry-test.true (rw c.from.ensures at c.put_line-next.ensures),
+)

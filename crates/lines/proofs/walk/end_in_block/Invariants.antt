@@ -1,9 +1,6 @@
-use Prim.Native.Nat.{◌-◌, ◌≤◌}
+use Prim.Native.Nat.{◌≤◌}
 use Rattle.lines.proofs.Ends.{Met}
 use Rattle.lines.proofs.walk.end_in_block.Given as goal
 
 abbrev pub invariant-loop-j : goal.invariant-loop-j
-invariant-loop-j l = (l.j ≤ 128) × (l.first ≤ 128) × Met l.d l.at l.j l.first
-
-abbrev pub decreases-loop-j : goal.decreases-loop-j
-decreases-loop-j l = 128 - l.j
+invariant-loop-j l = (l.first ≤ 128) × Met l.d l.at l.j l.first

@@ -1,23 +1,12 @@
-use mathlib.Core.Path.{refl}
+use mathlib.Core.Path.{◌∙◌}
 use native.Mathlib.Omega.{arith}
-use Rattle.lines.proofs.Ends.{end_ten, end_other, end_none, end_here, end_past}
-use borrow.Author.Rules.{rules}
+use Rattle.lines.proofs.Ends.{end_ten, end_other, end_none, end_past}
 use Rattle.lines.proofs.walk.line_end.Goals as goal
 
-pub loop-e-init : goal.loop-e-init
-loop-e-init c = (search rules, refl)
-
-pub overflow_cast-passed : goal.overflow_cast-passed
-overflow_cast-passed c = omega (arith, c.end_in_block-passed.ensures)
-
-pub overflow_add-e : goal.overflow_add-e
-overflow_add-e c = omega (arith, c.end_in_block-passed.ensures)
-
-pub returns-then-passed-lt128 : goal.returns-then-passed-lt128
-returns-then-passed-lt128 c = end_here c.args.d.now _ _ _ c.loop-e.invariant.1 c.end_in_block-passed.ensures c.if-passed-lt128.true
-
 pub loop-e-preserved-else-passed-lt128 : goal.loop-e-preserved-else-passed-lt128
-loop-e-preserved-else-passed-lt128 c = (omega (arith, c.end_in_block-passed.ensures), end_past c.args.d.now _ _ _ c.loop-e.invariant.1 c.end_in_block-passed.ensures)
+loop-e-preserved-else-passed-lt128 c =
+    let passed = c.from-passed.ensures ∙ c.end_in_block.ensures in
+    (omega (arith, passed), end_past c.args.d.now _ _ _ c.loop-e.invariant.1 passed)
 
 pub returns-then-d-e-eq10 : goal.returns-then-d-e-eq10
 returns-then-d-e-eq10 c = end_ten _ _ _ c.loop-e.invariant.1 c.loop-e-test.true c.if-d-e-eq10.true

@@ -1,45 +1,33 @@
 use native.Mathlib.Omega.{arith}
-use Rattle.list.proofs.Sets.{adding_short, adding_start, adding_low, adding_high, adding-free, adding-space, adding-more, adding_end}
+use lib.Seq.{length-take-le}
+use Rattle.list.proofs.Loops.{InFront, in_front}
+use Rattle.list.proofs.Sets.{adding_short, adding_start, adding_low, adding_high, adding-free, adding-more, adding_end}
 use Rattle.list.proofs.bits.add_rising.Goals as goal
+use Rattle.list.proofs.bits.add_rising.Goals.{then-e-last-via-then-e-last, then-e-last-via-else-e-last+then-past}
 
 pub returns-then-list-n : goal.returns-then-list-n
 returns-then-list-n c = adding_short _ _ _ _ c.if-list-n.true
 
-pub loop-i-init : goal.loop-i-init
-loop-i-init c = adding_start _ _ _ _ c.if-list-n.false c.requires.0 c.requires.1
-
-pub offset_bounds-list-i : goal.offset_bounds-list-i
-offset_bounds-list-i c = omega (arith, c.loop-i.invariant.room)
-
-pub bounds-list-i : goal.bounds-list-i
-bounds-list-i c = omega (arith, c.loop-i.invariant.room)
-
-pub overflow_cast-e : goal.overflow_cast-e
-overflow_cast-e c = omega (arith, c.type_inv.list c.loop-i.i)
-
-pub shape_of-bits-then-e-last : goal.shape_of-bits-then-e-last
-shape_of-bits-then-e-last c = c.loop-i.invariant.long
+pub loop-entry-init : goal.loop-entry-init
+loop-entry-init c = adding_start _ _ _ _ c.if-list-n.false (omega arith) c.requires.1
 
 pub returns-then-e-last : goal.returns-then-e-last
-returns-then-e-last c = adding_low c.loop-i.invariant c.loop-i-test.true c.if-e-last.true
-
-pub shape_of-bits-then-past : goal.shape_of-bits-then-past
-shape_of-bits-then-past c = c.loop-i.invariant.long
-
-pub returns-then-past : goal.returns-then-past
-returns-then-past c = adding_high c.loop-i.invariant c.loop-i-test.true c.if-past.true
+returns-then-e-last c =
+    let here : InFront c.args.list.now c.args.n c.loop-entry.entry-index c.from-e.result = in_front _ _ _ _ c.if-list-n.false c.loop-entry-test.true c.from-e.ensures in
+    elim c.then-e-last.branch [
+      | then-e-last-via-then-e-last w ↦ adding_low c.loop-entry.invariant here.below (rw here.is at w.if-e-last.true)
+      | then-e-last-via-else-e-last+then-past w ↦ adding_high c.loop-entry.invariant here.below (rw here.is at w.if-past.true)
+    ]
 
 pub add-requires : goal.add-requires
-add-requires c = (adding-space c.loop-i.invariant c.loop-i-test.true c.if-e-last.false c.if-past.false, adding-free c.loop-i.invariant c.loop-i-test.true c.if-e-last.false c.if-past.false)
+add-requires c =
+    let here : InFront c.args.list.now c.args.n c.loop-entry.entry-index c.from-e.result = in_front _ _ _ _ c.if-list-n.false c.loop-entry-test.true c.from-e.ensures in
+    (omega arith, rw here.is (adding-free c.loop-entry.invariant here.below (rw here.is at c.if-e-last.false) (rw here.is at c.if-past.false)))
 
-pub overflow_add-i : goal.overflow_add-i
-overflow_add-i c = omega (arith, c.loop-i.invariant.room)
-
-pub loop-i-preserved : goal.loop-i-preserved
-loop-i-preserved c = rw c.add.ensures (adding-more c.loop-i.invariant c.loop-i-test.true c.if-e-last.false c.if-past.false)
-
-pub shape_of-bits : goal.shape_of-bits
-shape_of-bits c = c.loop-i.invariant.long
+pub loop-entry-preserved : goal.loop-entry-preserved
+loop-entry-preserved c =
+    let here : InFront c.args.list.now c.args.n c.loop-entry.entry-index c.from-e.result = in_front _ _ _ _ c.if-list-n.false c.loop-entry-test.true c.from-e.ensures in
+    rw (c.add.ensures, here.is) (adding-more c.loop-entry.invariant here.below (rw here.is at c.if-e-last.false) (rw here.is at c.if-past.false))
 
 pub returns : goal.returns
-returns c = adding_end c.loop-i.invariant c.loop-i-test.false
+returns c = adding_end c.loop-entry.invariant (omega (arith, length-take-le c.args.n c.args.list.now c.if-list-n.false))

@@ -1,11 +1,6 @@
-use Prim.Native.Nat.{◌-◌}
 use Rattle.list.specs.Bits.{bit_of}
 use Rattle.list.proofs.Sets.{Writing}
-use Rattle.list.proofs.bits.has.Reads as has-reads
 use Rattle.list.proofs.bits.write_entries.Given as goal
 
 abbrev pub invariant-loop-e : goal.invariant-loop-e
 invariant-loop-e l = Writing l.initial.list (bit_of l.bits) l.n l.list l.k l.e
-
-abbrev pub decreases-loop-e : goal.decreases-loop-e
-decreases-loop-e l = l.n - l.e

@@ -1,31 +1,39 @@
-use mathlib.Core.Path.{◌≡◌, sym, ap, ◌∙◌}
-use mathlib.Core.Bool.{not}
-use native.Mathlib.Omega.{arith}
-use lib.Dec.{eqb}
-use lib.ListN.{set}
-use Rattle.moving.specs.Inner.{value_of, moved_or_zero, moved_axis}
-use Rattle.moving.proofs.Axes.{map_none, map_more, all_one, all_leaves, all_stays}
+use mathlib.Core.Path.{sym, ap, ◌∙◌}
+use lib.ListN.{set, get_or}
+use mir.Syntax.{w64}
+use mir.Val.{to_z, of_z}
+use mir.Facts.{to_z-of_z}
+use Rattle.std.specs.Prelude.{Err}
+use Rattle.token.proofs.Handed.{handed}
+use Rattle.moving.specs.Moves.{stays, moved_number}
+use Rattle.moving.specs.Inner.{moved_axis}
+use Rattle.moving.proofs.Axes.{was_inside, was_outside, map_none, map_more, one_leaves, none_left, one_stays}
 use Rattle.moving.proofs.writing.move_axis.Goals as goal
-use Rattle.moving.proofs.writing.move_axis.Goals.{else-m-eq0, then-m-eq0}
+
+pub returns-in_err-next : goal.returns-in_err-next
+returns-in_err-next c =
+    let a = c.args in
+    let by = to_z w64 (of_z w64 a.by) in
+    let left = was_outside (stays by (get_or a.values.now c.loop-i.i 0)) (moved_number by (get_or a.values.now c.loop-i.i 0)) c.in_err-next.field-0.0 (sym c.move_number-in-loop-i.ensures ∙ c.in_err-next.was) in
+    handed _ _ c.from_residual-in_err-next.ensures.1
+    ∙ ap Err left.1
+    ∙ sym (one_leaves by a.most a.values.now a.n c.loop-i.i c.loop-i-test.true left.0)
+    ∙ ap (λ z. moved_axis z a.most a.n a.values.now) (to_z-of_z c.ranges.by)
 
 pub loop-i-init : goal.loop-i-init
 loop-i-init c =
     let a = c.args in
-    (omega arith, ap (λ k. not (eqb k 0)) c.moved-end.ensures ∙ all_one (value_of a.by) a.most a.values.now, sym (map_none _ _))
+    let by = to_z w64 (of_z w64 a.by) in
+    let in_end = was_inside (stays by a.most) (moved_number by a.most) c.in_ok-end.end (sym c.move_number.ensures ∙ c.in_ok-end.was) in
+    record { stay = none_left by a.most a.values.now in_end.0; next = sym (map_none _ _) }
 
 pub loop-i-preserved : goal.loop-i-preserved
 loop-i-preserved c =
     let a = c.args in
-    let values = a.values.now in
+    let by = to_z w64 (of_z w64 a.by) in
     let i = c.loop-i.i in
-    let m = c.moved-m.ensures in (
-      omega arith,
-      (elim c.if-m-eq0.branch [ then-m-eq0 w ↦ w.stay-is ∙ sym (all_leaves (value_of a.by) a.most i values (sym m ∙ w.if-m-eq0.true)) | else-m-eq0 w ↦ w.stay-is ∙ c.loop-i.invariant.1 ∙ sym (all_stays (value_of a.by) a.most i values (λ z. w.if-m-eq0.false (m ∙ z))) ]),
-      (λ j. set (c.loop-i.invariant.2 j) i (m j)) ∙ map_more (moved_or_zero (value_of a.by)) i values,
-    )
-
-pub returns : goal.returns
-returns c =
-    let a = c.args in
-    let e : c.loop-i.i ≡ a.n = omega arith in
-    (λ j. record { stay = c.loop-i.invariant.1 j; most = c.moved-end.ensures j; values = c.loop-i.invariant.2 j }) ∙ ap (λ k. moved_axis (value_of a.by) a.most k a.values.now) e
+    let in_next = was_inside (stays by (get_or a.values.now i 0)) (moved_number by (get_or a.values.now i 0)) c.in_ok-next.field-0 (sym c.move_number-in-loop-i.ensures ∙ c.in_ok-next.was) in
+    record {
+      stay = one_stays by a.most a.values.now i c.loop-i.invariant.stay in_next.0;
+      next = (λ j. set (c.loop-i.invariant.next j) i (sym in_next.1 j)) ∙ map_more (moved_number by) i a.values.now;
+    }

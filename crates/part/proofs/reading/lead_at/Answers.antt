@@ -5,4 +5,4 @@ use Rattle.part.proofs.Placing.{sure_placed}
 use Rattle.part.proofs.reading.lead_at.Goals as goal
 
 pub returns : goal.returns
-returns c = sure_placed _ _ _ (lead_fixed (tokens c.args.set) (lawful c.args.set)) _ _ _ c.quick_lead-quick.ensures _ _ _ c.in-Found.is
+returns c = sure_placed _ _ _ (lead_fixed (tokens c.args.set) (lawful c.args.set)) _ _ _ _ c.lead_at.ensures c.in-Some.is

@@ -1,21 +1,15 @@
-use Rattle.query.proofs.Tails.{items_inside, tail_refused, tail-wrong, tail-short, tail-fine}
-use native.Mathlib.Omega.{arith}
+use Rattle.token.proofs.Handed.{handed}
+use Rattle.query.proofs.Tails.{items_inside, tail_refused, tail-fails, tail-fine}
 use Rattle.query.proofs.words.tail_into.Goals as goal
 
-pub returns-then-number-ne-DONE : goal.returns-then-number-ne-DONE
-returns-then-number-ne-DONE c = tail_refused c.args.edition _ _ _ c.requires.1 _ _ _ c.items_into-t.ensures _ c.if-number-ne-DONE.true c.answer.ensures
+pub returns-in_err-sought : goal.returns-in_err-sought
+returns-in_err-sought c = rw (handed _ _ c.from_residual.ensures.1) (tail_refused c.args.edition _ _ _ c.requires.0 _ _ _ c.items_into.ensures _ c.in_err-sought.was)
 
 pub variance_end-requires : goal.variance_end-requires
-variance_end-requires c = items_inside c.args.edition _ _ _ _ _ _ _ c.items_into-t.ensures c.requires.1 c.if-number-ne-DONE.false
+variance_end-requires c = items_inside c.args.edition _ _ _ _ _ _ _ c.items_into.ensures _ c.in_ok-sought.was c.requires.0
 
-pub limited_into-requires : goal.limited_into-requires
-limited_into-requires c = omega (arith, c.items_into-t.ensures.size, c.requires.2)
+pub returns-in_err-variance : goal.returns-in_err-variance
+returns-in_err-variance c = rw (handed _ _ c.from_residual-in_err-variance.ensures.1) (tail-fails c.args.edition _ _ _ c.requires.0 _ _ _ c.items_into.ensures _ c.in_ok-sought.was _ c.variance_end.ensures _ c.in_err-variance.was)
 
-pub returns-in-Value : goal.returns-in-Value
-returns-in-Value c = tail-fine c.args.edition _ _ _ c.requires.1 _ _ _ c.items_into-t.ensures c.if-number-ne-DONE.false _ c.variance_end.ensures _ _ _ _ _ c.in-Value.is c.or_earlier-reversed.ensures c.either-crowded.ensures c.limited_into.ensures
-
-pub returns-in-Wrong : goal.returns-in-Wrong
-returns-in-Wrong c = tail-wrong c.args.edition _ _ _ c.requires.1 _ _ _ c.items_into-t.ensures c.if-number-ne-DONE.false _ c.variance_end.ensures _ _ c.in-Wrong.is c.answer-in-Wrong.ensures
-
-pub returns-in-Short : goal.returns-in-Short
-returns-in-Short c = tail-short c.args.edition _ _ _ c.requires.1 _ _ _ c.items_into-t.ensures c.if-number-ne-DONE.false _ c.variance_end.ensures _ c.in-Short.is c.answer-in-Short.ensures
+pub returns : goal.returns
+returns c = tail-fine c.args.edition _ _ _ c.requires.0 _ _ _ c.items_into.ensures _ c.in_ok-sought.was _ c.variance_end.ensures _ _ _ c.in_ok-variance.was c.limited_into.ensures

@@ -1,30 +1,22 @@
-use native.Mathlib.Omega.{arith}
-use Rattle.queryitem.proofs.Coordinates.{size_most, no_coordinate, absent, number_wrong, number_short, second_fails, both_found}
+use mathlib.Core.Path.{◌∙◌}
+use Rattle.token.proofs.Handed.{handed}
+use Rattle.token.proofs.Wrong.{is_wrong, not_wrong}
+use Rattle.queryitem.proofs.Coordinates.{no_coordinate, absent, number_fails, second_fails, both_found}
 use Rattle.queryitem.proofs.coordinate.coordinate_at.Goals as goal
 
 pub returns-then-s-at : goal.returns-then-s-at
 returns-then-s-at c = no_coordinate _ _ _ c.requires c.if-s-at.true
 
-pub overflow_add-next : goal.overflow_add-next
-overflow_add-next c = omega (arith, size_most c.args.edition)
+pub returns-in_err-y-in-Ok : goal.returns-in_err-y-in-Ok
+returns-in_err-y-in-Ok c =
+    handed _ _ c.from_residual.ensures.1
+    ∙ second_fails _ _ _ c.if-s-at.false _ c.number_at.ensures _ _ c.in-Ok.is c.number_size.ensures _ _ c.second_at.ensures c.in_err-y-in-Ok.was
 
-pub second_at-second-requires : goal.second_at-second-requires
-second_at-second-requires c = omega (arith, size_most c.args.edition)
+pub returns-in_ok-y-in-Ok : goal.returns-in_ok-y-in-Ok
+returns-in_ok-y-in-Ok c = both_found _ _ _ c.if-s-at.false _ c.number_at.ensures _ _ c.in-Ok.is c.number_size.ensures _ _ c.second_at.ensures c.in_ok-y-in-Ok.was
 
-pub returns-in_default : goal.returns-in_default
-returns-in_default c = second_fails _ _ _ c.if-s-at.false _ c.number_at.ensures _ _ c.in-Value.is c.number_size.ensures _ _ c.second_at-second.ensures c.in_default.not-Value c.failed.ensures
+pub returns-in-Err : goal.returns-in-Err
+returns-in-Err c = absent _ _ _ c.if-s-at.false _ c.number_at.ensures _ c.in-Err.is (is_wrong _ _ c.if-is_wrong_at.ensures)
 
-pub overflow_add-result : goal.overflow_add-result
-overflow_add-result c = omega (arith, size_most c.args.edition)
-
-pub returns-then-p-at : goal.returns-then-p-at
-returns-then-p-at c = absent _ _ _ c.if-s-at.false _ c.number_at.ensures _ c.in-Wrong.is c.if-p-at.true
-
-pub returns-in-Value-second : goal.returns-in-Value-second
-returns-in-Value-second c = both_found _ _ _ c.if-s-at.false _ c.number_at.ensures _ _ c.in-Value.is c.number_size.ensures _ _ c.second_at-second.ensures c.in-Value-second.is
-
-pub returns-else-p-at : goal.returns-else-p-at
-returns-else-p-at c = number_wrong _ _ _ c.if-s-at.false _ c.number_at.ensures _ c.in-Wrong.is c.if-p-at.false
-
-pub returns-in-Short : goal.returns-in-Short
-returns-in-Short c = number_short _ _ _ c.if-s-at.false _ c.number_at.ensures c.in-Short.is
+pub returns-in-Err-2 : goal.returns-in-Err-2
+returns-in-Err-2 c = number_fails _ _ _ c.if-s-at.false _ c.number_at.ensures _ c.in-Err.is (not_wrong _ _ c.if-is_wrong_at.ensures)

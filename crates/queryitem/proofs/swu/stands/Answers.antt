@@ -1,8 +1,9 @@
+use borrow.Author.Tests.{le-ltb}
 use Rattle.queryitem.proofs.SwuItems.{stands_end, stands_here}
 use Rattle.queryitem.proofs.swu.stands.Goals as goal
 
-pub returns-then-s-at : goal.returns-then-s-at
-returns-then-s-at c = stands_end _ _ _ c.if-s-at.true c.requires
+pub returns-then-at-s : goal.returns-then-at-s
+returns-then-at-s c = stands_here _ _ _ c.if-at-s.true
 
-pub returns : goal.returns
-returns c = stands_here _ _ _ c.if-s-at.false
+pub returns-else-at-s : goal.returns-else-at-s
+returns-else-at-s c = rw (le-ltb _ _ c.if-at-s.false) (stands_end _ _ _ c.if-at-s.false c.requires)

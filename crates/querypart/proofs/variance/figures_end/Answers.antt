@@ -1,44 +1,26 @@
-use Rattle.querypart.proofs.Figures.{figure_there, first_fails, one-figure, second_fails, two-figures, third-fails, three-figures, four-figures}
+use mathlib.Core.Path.{refl, ◌∙◌}
 use native.Mathlib.Omega.{arith}
-use Rattle.querypart.proofs.variance.figures_end.Reads as reads
-use Rattle.querypart.proofs.variance.figures_end.Lts as lts
+use Rattle.token.proofs.Handed.{handed}
+use Rattle.querypart.proofs.Figures.{no_figure, figured_most, figured_past, figured_fails, figured_ends, figured_more, figured_digit}
 use Rattle.querypart.proofs.variance.figures_end.Goals as goal
 
-pub returns-in_default : goal.returns-in_default
-returns-in_default c = first_fails _ _ _ c.digit_at-first.ensures c.in_default.not-Value
+pub loop-i-init : goal.loop-i-init
+loop-i-init c = no_figure refl refl
 
-pub returns-then-s-at : goal.returns-then-s-at
-returns-then-s-at c = one-figure _ _ _ (figure_there _ _ _ _ c.digit_at-first.ensures c.in-Value.is) c.if-s-at.true
+pub returns-in_err-n : goal.returns-in_err-n
+returns-in_err-n c = handed _ _ c.from_residual.ensures.1 ∙ figured_fails _ _ _ _ c.loop-i.invariant c.loop-i-test.true _ _ c.digit_at.ensures c.in_err-n.was
 
-pub returns-in_default-second : goal.returns-in_default-second
-returns-in_default-second c = second_fails _ _ _ (figure_there _ _ _ _ c.digit_at-first.ensures c.in-Value.is) _ c.if-s-at.false c.digit_at-second.ensures c.in_default-second.not-Value
+pub overflow_mul-n : goal.overflow_mul-n
+overflow_mul-n c = omega (arith, figured_most _ _ _ _ c.loop-i.invariant c.loop-i-test.true)
 
-pub overflow_mul-result : goal.overflow_mul-result
-overflow_mul-result c = omega (arith, (figure_there _ _ _ _ c.digit_at-first.ensures c.in-Value.is).valid.1)
+pub overflow_add-n : goal.overflow_add-n
+overflow_add-n c = omega (arith, figured_most _ _ _ _ c.loop-i.invariant c.loop-i-test.true, figured_digit _ c.args.at _ _ _ c.digit_at.ensures c.in_ok-n.was)
 
-pub overflow_add-result : goal.overflow_add-result
-overflow_add-result c = omega (arith, (figure_there _ _ _ _ c.digit_at-first.ensures c.in-Value.is).valid.1, (figure_there _ _ _ _ c.digit_at-second.ensures c.in-Value-second.is).valid.1)
+pub returns-then-s-i : goal.returns-then-s-i
+returns-then-s-i c = figured_ends _ _ _ _ c.loop-i.invariant c.loop-i-test.true _ _ c.digit_at.ensures c.in_ok-n.was c.if-s-i.true
 
-pub returns-then-s-at-2 : goal.returns-then-s-at-2
-returns-then-s-at-2 c = two-figures _ _ _ (figure_there _ _ _ _ c.digit_at-first.ensures c.in-Value.is) _ (figure_there _ _ _ _ c.digit_at-second.ensures c.in-Value-second.is) c.if-s-at-2.true
-
-pub returns-in_default-third : goal.returns-in_default-third
-returns-in_default-third c = third-fails _ _ _ (figure_there _ _ _ _ c.digit_at-first.ensures c.in-Value.is) _ (figure_there _ _ _ _ c.digit_at-second.ensures c.in-Value-second.is) _ c.if-s-at-2.false c.digit_at-third.ensures c.in_default-third.not-Value
-
-pub overflow_mul-result-then-s-at-3 : goal.overflow_mul-result-then-s-at-3
-overflow_mul-result-then-s-at-3 c = omega (arith, (figure_there _ _ _ _ c.digit_at-first.ensures c.in-Value.is).valid.1)
-
-pub overflow_add-result-then-s-at-3 : goal.overflow_add-result-then-s-at-3
-overflow_add-result-then-s-at-3 c = omega (arith, (figure_there _ _ _ _ c.digit_at-first.ensures c.in-Value.is).valid.1, (figure_there _ _ _ _ c.digit_at-second.ensures c.in-Value-second.is).valid.1)
-
-pub overflow_mul-result-then-s-at-3-2 : goal.overflow_mul-result-then-s-at-3-2
-overflow_mul-result-then-s-at-3-2 c = omega (arith, (figure_there _ _ _ _ c.digit_at-first.ensures c.in-Value.is).valid.1, (figure_there _ _ _ _ c.digit_at-second.ensures c.in-Value-second.is).valid.1)
-
-pub overflow_add-result-then-s-at-3-2 : goal.overflow_add-result-then-s-at-3-2
-overflow_add-result-then-s-at-3-2 c = omega (arith, (figure_there _ _ _ _ c.digit_at-first.ensures c.in-Value.is).valid.1, (figure_there _ _ _ _ c.digit_at-second.ensures c.in-Value-second.is).valid.1, (figure_there _ _ _ _ c.digit_at-third.ensures c.in-Value-third.is).valid.1)
-
-pub returns-then-s-at-3 : goal.returns-then-s-at-3
-returns-then-s-at-3 c = three-figures _ _ _ (figure_there _ _ _ _ c.digit_at-first.ensures c.in-Value.is) _ (figure_there _ _ _ _ c.digit_at-second.ensures c.in-Value-second.is) _ (figure_there _ _ _ _ c.digit_at-third.ensures c.in-Value-third.is) c.if-s-at-3.true
+pub loop-i-preserved : goal.loop-i-preserved
+loop-i-preserved c = figured_more _ _ _ _ c.loop-i.invariant c.loop-i-test.true _ _ c.digit_at.ensures c.in_ok-n.was c.if-s-i.false
 
 pub returns : goal.returns
-returns c = four-figures _ _ _ (figure_there _ _ _ _ c.digit_at-first.ensures c.in-Value.is) _ (figure_there _ _ _ _ c.digit_at-second.ensures c.in-Value-second.is) _ (figure_there _ _ _ _ c.digit_at-third.ensures c.in-Value-third.is) c.if-s-at-3.false
+returns c = figured_past _ _ _ _ c.loop-i.invariant c.loop-i-test.false

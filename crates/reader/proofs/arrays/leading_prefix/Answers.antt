@@ -1,15 +1,16 @@
-use mathlib.Core.Path.{sym, ◌∙◌}
+use mathlib.Core.Path.{sym, ap, ◌∙◌}
+use native.Mathlib.Omega.{arith}
+use borrow.Author.Tests.{eqb-true, eqb-false}
+use Rattle.std.specs.Prelude.{Err}
+use Rattle.token.proofs.Wrong.{is_wrong, not_wrong}
 use Rattle.reader.proofs.Prefixes.{prefix_absent, prefix_empty, prefix_cut}
 use Rattle.reader.proofs.arrays.leading_prefix.Goals as goal
 
-pub prefix_after-requires : goal.prefix_after-requires
-prefix_after-requires c = (record { marker = _; is = sym c.marker_at.ensures ∙ c.in-Value.is }, c.requires)
+pub returns-then-is_empty : goal.returns-then-is_empty
+returns-then-is_empty c = prefix_empty _ _ _ (omega (arith, eqb-true _ _ (sym c.if-is_empty.ensures))) c.requires
 
-pub returns-then-s-gt0 : goal.returns-then-s-gt0
-returns-then-s-gt0 c = rw c.counted-then-s-gt0.ensures (prefix_cut _ _ _ (sym c.marker_at.ensures ∙ c.in-Short.is) c.if-s-gt0.true)
+pub returns-in-Err : goal.returns-in-Err
+returns-in-Err c = prefix_absent _ _ _ (sym c.marker_at.ensures ∙ c.in-Err.is ∙ ap Err (is_wrong _ _ c.if-is_wrong_at.ensures)) c.requires
 
-pub returns-in-Wrong : goal.returns-in-Wrong
-returns-in-Wrong c = rw c.counted.ensures (prefix_absent _ _ _ _ (sym c.marker_at.ensures ∙ c.in-Wrong.is) c.requires)
-
-pub returns-else-s-gt0 : goal.returns-else-s-gt0
-returns-else-s-gt0 c = rw c.counted-in-Short.ensures (prefix_empty _ _ _ c.if-s-gt0.false c.requires)
+pub returns-in-Err-2 : goal.returns-in-Err-2
+returns-in-Err-2 c = prefix_cut _ _ _ _ (sym c.marker_at.ensures ∙ c.in-Err.is) (not_wrong _ _ c.if-is_wrong_at.ensures) (omega (arith, eqb-false _ _ (sym c.if-is_empty.ensures)))

@@ -1,17 +1,20 @@
+use Rattle.token.proofs.Handed.{handed}
 use Rattle.reader.proofs.Prefixes.{prefix_room, prefix-bad, prefix-some, prefix_none, prefix_none_cut}
 use Rattle.reader.proofs.arrays.prefix_after.Goals as goal
 
-pub prefix_into-t-requires : goal.prefix_into-t-requires
-prefix_into-t-requires c = (prefix_room c.args.set c.args.s.now c.requires.0 _ c.marker_size-size.ensures, c.requires.1)
+pub prefix_into-requires : goal.prefix_into-requires
+prefix_into-requires c = (prefix_room c.args.set c.args.s.now c.requires.0 _ c.marker_size-size.ensures, c.requires.1)
 
-pub returns-then-number-ne-DONE : goal.returns-then-number-ne-DONE
-returns-then-number-ne-DONE c = rw c.counted.ensures (prefix-bad _ _ c.requires.0 _ c.marker_size-size.ensures _ _ c.prefix_into-t.ensures c.if-number-ne-DONE.true)
+pub returns-in_err-found : goal.returns-in_err-found
+returns-in_err-found c =
+    rw (handed _ _ c.from_residual.ensures.1)
+    (prefix-bad _ _ c.requires.0 _ c.marker_size-size.ensures _ _ c.prefix_into.ensures _ c.in_err-found.was)
 
-pub returns-then-count-gt0 : goal.returns-then-count-gt0
-returns-then-count-gt0 c = rw c.counted-then-count-gt0.ensures (prefix-some _ _ c.requires.0 _ c.marker_size-size.ensures _ _ c.prefix_into-t.ensures c.if-number-ne-DONE.false c.if-count-gt0.true)
+pub returns-then-some : goal.returns-then-some
+returns-then-some c = prefix-some _ _ c.requires.0 _ c.marker_size-size.ensures _ _ c.prefix_into.ensures _ c.in_ok-found.was c.if-some.true
 
-pub returns-then-place-s : goal.returns-then-place-s
-returns-then-place-s c = rw c.counted-then-place-s.ensures (prefix_none _ _ c.requires.0 _ c.marker_size-size.ensures _ _ c.prefix_into-t.ensures c.if-number-ne-DONE.false c.if-count-gt0.false c.if-place-s.true)
+pub returns-then-found-s : goal.returns-then-found-s
+returns-then-found-s c = prefix_none _ _ c.requires.0 _ c.marker_size-size.ensures _ _ c.prefix_into.ensures _ c.in_ok-found.was c.if-some.false c.if-found-s.true
 
 pub returns : goal.returns
-returns c = rw c.counted-2.ensures (prefix_none_cut _ _ c.requires.0 _ c.marker_size-size.ensures _ _ c.prefix_into-t.ensures c.if-number-ne-DONE.false c.if-count-gt0.false c.if-place-s.false)
+returns c = prefix_none_cut _ _ c.requires.0 _ c.marker_size-size.ensures _ _ c.prefix_into.ensures _ c.in_ok-found.was c.if-some.false c.if-found-s.false

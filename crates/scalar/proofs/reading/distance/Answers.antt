@@ -6,4 +6,4 @@ pub returns-then-b-from : goal.returns-then-b-from
 returns-then-b-from c = rw (lt-ltb _ _ c.if-b-from.true) (omega arith)
 
 pub returns : goal.returns
-returns c = rw (le-ltb _ _ c.if-b-from.false)
+returns c = rw (le-ltb _ _ c.if-b-from.false) c.from.ensures

@@ -1,18 +1,15 @@
-use borrow.Author.Tests.{not-true, not-false}
-use Rattle.styling.proofs.Entries.{not_read_as, zooms_not, names-not, styles-not, read_as}
+use mathlib.Core.Path.{sym, ap, ◌∙◌}
+use Rattle.styling.specs.Writing.{same_numbers}
+use Rattle.styling.proofs.Entries.{read_as, limits_not, not_read_as}
 use Rattle.styling.proofs.records.reads_as.Goals as goal
 
-pub returns-then-number-ne-DONE : goal.returns-then-number-ne-DONE
-returns-then-number-ne-DONE c = not_read_as _ _ _ _ c.styling_at-f.ensures c.if-number-ne-DONE.true
+pub returns-then-is_within_limits : goal.returns-then-is_within_limits
+returns-then-is_within_limits c =
+    read_as _ _ _ _ c.in-Ok.ensures (sym c.is_within_limits.ensures ∙ c.if-is_within_limits.true) _
+    (c.eq.ensures ∙ ap (same_numbers c.args.w.now) c.as_slice-again.ensures)
 
-pub returns-then-not-f : goal.returns-then-not-f
-returns-then-not-f c = zooms_not _ _ _ _ c.styling_at-f.ensures c.if-number-ne-DONE.false (not-true _ c.if-not-f.true)
+pub returns-else-is_within_limits : goal.returns-else-is_within_limits
+returns-else-is_within_limits c = c.if-is_within_limits.false ∙ limits_not _ _ _ _ c.in-Ok.ensures (sym c.is_within_limits.ensures ∙ c.if-is_within_limits.false)
 
-pub returns-then-not-f-2 : goal.returns-then-not-f-2
-returns-then-not-f-2 c = names-not _ _ _ _ c.styling_at-f.ensures c.if-number-ne-DONE.false (not-false _ c.if-not-f.false) (not-true _ c.if-not-f-2.true)
-
-pub returns-then-not-f-3 : goal.returns-then-not-f-3
-returns-then-not-f-3 c = styles-not _ _ _ _ c.styling_at-f.ensures c.if-number-ne-DONE.false (not-false _ c.if-not-f.false) (not-false _ c.if-not-f-2.false) (not-true _ c.if-not-f-3.true)
-
-pub returns : goal.returns
-returns c = read_as _ _ _ _ c.styling_at-f.ensures c.if-number-ne-DONE.false (not-false _ c.if-not-f.false) (not-false _ c.if-not-f-2.false) (not-false _ c.if-not-f-3.false) _ c.are_same.ensures
+pub returns-in-Err : goal.returns-in-Err
+returns-in-Err c = not_read_as _ _ _ _ c.in-Err.ensures

@@ -1,17 +1,18 @@
-use native.Mathlib.Omega.{arith}
 use mathlib.Core.Path.{sym}
-use Rattle.styling.proofs.Texts.{place_fits, into_none, into_refused, into_split}
-use Rattle.styling.proofs.Drafting.{undashed_draft, dashed_draft}
+use native.Mathlib.Omega.{arith}
+use Rattle.styling.proofs.Judging.{dash_none, dash_some}
+use Rattle.styling.proofs.Texts.{into_none, into_refused, into_split}
+use Rattle.styling.proofs.Drafting.{refused_draft, dashed_draft}
 use Rattle.styling.proofs.text.split_into.Goals as goal
 
-pub returns-then-s-at : goal.returns-then-s-at
-returns-then-s-at c = let v = into_none _ _ _ _ _ _ _ _ c.dash_at-at.ensures c.if-s-at.true c.undashed.ensures in record { sign = v; styling = undashed_draft _ _ _ _ _ _ _ _ _ v c.undashed.ensures }
+pub returns-in_default : goal.returns-in_default
+returns-in_default c =
+    let v = into_none _ _ _ _ (dash_none _ _ c.first_dash.ensures c.in_default.is) c.undashed.ensures in record { sign = v; styling = refused_draft _ _ _ _ _ _ v }
 
-pub returns-then-number-ne-DONE : goal.returns-then-number-ne-DONE
-returns-then-number-ne-DONE c = let v = into_refused _ _ _ c.dash_at-at.ensures c.if-s-at.false _ _ _ _ _ c.text_into-h.ensures c.if-number-ne-DONE.true _ c.undashed-then-number-ne-DONE.ensures in record { sign = v; styling = undashed_draft _ _ _ _ _ _ _ _ _ v c.undashed-then-number-ne-DONE.ensures }
+pub returns-in-Ok : goal.returns-in-Ok
+returns-in-Ok c =
+    let d = (dash_some _ _ c.first_dash.ensures _ c.in-Some.is) in record { sign = into_split _ _ _ d.0 d.1 _ _ c.in-Ok.ensures _ _ _ c.styling_after.ensures; styling = dashed_draft _ _ _ _ _ _ _ (sym d.0) (omega (arith, d.1)) c.styling_after.ensures }
 
-pub judged-requires : goal.judged-requires
-judged-requires c = place_fits c.args.s.now _ _ c.if-s-at.false c.styling_at.ensures.is (omega arith)
-
-pub returns : goal.returns
-returns c = record { sign = into_split _ _ _ c.dash_at-at.ensures c.if-s-at.false _ _ _ _ _ c.text_into-h.ensures c.if-number-ne-DONE.false _ _ c.styling_at.ensures.is c.judged.ensures; styling = dashed_draft _ _ _ _ _ _ (sym c.dash_at-at.ensures) c.styling_at.ensures }
+pub returns-in-Err : goal.returns-in-Err
+returns-in-Err c =
+    let d = (dash_some _ _ c.first_dash.ensures _ c.in-Some.is) in let v = into_refused _ _ _ d.0 d.1 _ _ c.in-Err.ensures _ c.undashed-in-Err.ensures in record { sign = v; styling = refused_draft _ _ _ _ _ _ v }

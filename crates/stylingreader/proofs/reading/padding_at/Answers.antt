@@ -7,10 +7,10 @@ use Rattle.stylingreader.proofs.Marks.{stands_room}
 use Rattle.stylingreader.proofs.reading.padding_at.Goals as goal
 
 pub returns-then-not-stands : goal.returns-then-not-stands
-returns-then-not-stands c = part_absent 80 two_digits (take_number 1 1) _ _ _ _ _ _ c.stands.ensures c.requires c.if-not-stands.true c.passed.ensures refl
+returns-then-not-stands c = part_absent 80 two_digits (take_number 1 1) _ _ _ _ _ c.stands.ensures c.requires c.if-not-stands.true _ c.passed.ensures refl
 
 pub number_at-requires : goal.number_at-requires
 number_at-requires c = (stands_room _ _ _ _ c.stands.ensures c.if-not-stands.false, omega arith)
 
 pub returns : goal.returns
-returns c = part_there 80 two_digits (take_number 1 1) _ _ _ _ _ _ c.stands.ensures c.if-not-stands.false c.number_at.ensures
+returns c = part_there 80 two_digits (take_number 1 1) _ _ _ _ _ c.stands.ensures c.if-not-stands.false _ c.number_at.ensures

@@ -1,11 +1,11 @@
 use Rattle.stylingreader.proofs.Strings.{styling_fails, styling-past, styling-done}
 use Rattle.stylingreader.proofs.reading.styling_at.Goals as goal
 
-pub returns-then-all-ne-DONE : goal.returns-then-all-ne-DONE
-returns-then-all-ne-DONE c = styling_fails _ _ _ _ _ c.spelling_at-all.ensures c.if-all-ne-DONE.true _ c.refused.ensures
+pub returns-in_err-all : goal.returns-in_err-all
+returns-in_err-all c = styling_fails _ _ _ _ _ _ c.from_residual.ensures.1 c.in_err-all.ensures
 
-pub returns-then-end-s : goal.returns-then-end-s
-returns-then-end-s c = styling-past _ _ _ _ _ c.spelling_at-all.ensures c.requires c.if-all-ne-DONE.false c.if-end-s.true _ c.refused-then-end-s.ensures
+pub returns-then-all-s : goal.returns-then-all-s
+returns-then-all-s c = styling-past _ _ _ _ _ c.in_ok-all.ensures c.requires c.if-all-s.true
 
 pub returns : goal.returns
-returns c = styling-done _ _ _ _ _ c.spelling_at-all.ensures c.requires c.if-all-ne-DONE.false c.if-end-s.false
+returns c = styling-done _ _ _ _ _ c.in_ok-all.ensures c.requires c.if-all-s.false

@@ -1,25 +1,21 @@
+use mathlib.Core.Path.{◌∙◌}
 use native.Mathlib.Omega.{arith}
-use Rattle.stylingreader.proofs.Rows.{rows_start, rows_stop, rows_end, rows_fails, rows-fall, rows_on}
-use borrow.Author.Rules.{rules}
+use Rattle.stylingreader.proofs.Chains.{handed_part}
+use Rattle.stylingreader.proofs.Marks.{stands_room}
+use Rattle.stylingreader.proofs.Rows.{rows_stop, rows_fails, rows-fall, rows_on}
 use Rattle.stylingreader.proofs.styles.styles_at.Goals as goal
 
-pub loop-i-init : goal.loop-i-init
-loop-i-init c = rows_start _ _ _ _ _ c.requires.0 c.requires.1
+pub style_at-requires : goal.style_at-requires
+style_at-requires g c = (stands_room _ _ _ _ c.stands.ensures c.loop-to-test.true, omega (arith, c.row_of.ensures))
 
-pub returns-then-s-i : goal.returns-then-s-i
-returns-then-s-i c = rows_stop _ _ _ _ _ _ _ _ _ _ c.loop-i.invariant c.loop-i-test.true _ c.letter_of-letter.ensures c.if-s-i.true
+pub returns-in_err-one : goal.returns-in_err-one
+returns-in_err-one g c = handed_part c.from_residual.ensures.1 (rows_fails _ _ _ _ _ _ _ c.loop-to.invariant _ (c.LETTER.ensures ∙ g.met.S.Style.lettered) _ c.stands.ensures c.loop-to-test.true _ _ _ c.in_err-one.ensures _)
 
-pub style_at-one-requires : goal.style_at-one-requires
-style_at-one-requires c = (omega arith, omega (arith, c.row_of.ensures))
+pub loop-to-smaller : goal.loop-to-smaller
+loop-to-smaller g c = rows-fall _ _ _ _ _ _ _ c.loop-to.invariant _ (c.LETTER.ensures ∙ g.met.S.Style.lettered) _ c.stands.ensures c.loop-to-test.true _ _ _ c.in_ok-one.ensures _ c.joined.ensures
 
-pub returns-then-one-ne-DONE : goal.returns-then-one-ne-DONE
-returns-then-one-ne-DONE c = rows_fails _ _ _ _ _ _ _ _ _ _ c.loop-i.invariant c.loop-i-test.true _ c.letter_of-letter.ensures c.if-s-i.false _ c.row_of.ensures _ _ c.style_at-one.ensures c.if-one-ne-DONE.true _
-
-pub loop-i-smaller : goal.loop-i-smaller
-loop-i-smaller c = rows-fall _ _ _ _ _ _ _ _ _ _ c.loop-i.invariant c.loop-i-test.true _ c.letter_of-letter.ensures c.if-s-i.false _ c.row_of.ensures _ _ c.style_at-one.ensures c.if-one-ne-DONE.false
-
-pub loop-i-preserved : goal.loop-i-preserved
-loop-i-preserved c = rows_on _ _ _ _ _ _ _ _ _ _ c.loop-i.invariant c.loop-i-test.true _ c.letter_of-letter.ensures c.if-s-i.false _ c.row_of.ensures _ _ c.style_at-one.ensures c.if-one-ne-DONE.false _ _ _ c.one_more-n.ensures c.and-zooms.ensures c.and-names.ensures (search rules)
+pub loop-to-preserved : goal.loop-to-preserved
+loop-to-preserved g c = rows_on _ _ _ _ _ _ _ c.loop-to.invariant _ (c.LETTER.ensures ∙ g.met.S.Style.lettered) _ c.stands.ensures c.loop-to-test.true _ _ _ c.in_ok-one.ensures c.row_of.ensures c.style_at.auto.to _ c.min.ensures _ c.joined.ensures
 
 pub returns : goal.returns
-returns c = rows_end _ _ _ _ _ _ _ _ _ _ c.loop-i.invariant c.loop-i-test.false
+returns g c = rows_stop _ _ _ _ _ _ _ c.loop-to.invariant _ (c.LETTER.ensures ∙ g.met.S.Style.lettered) _ c.stands.ensures c.loop-to-test.false

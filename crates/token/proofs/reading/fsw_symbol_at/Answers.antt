@@ -1,11 +1,11 @@
 use Rattle.charset.specs.Tokens.{key}
+use Rattle.token.proofs.Told.{hands_on}
 use Rattle.token.proofs.Keys.{after_fails, after_told}
 use Rattle.token.proofs.reading.fsw_symbol_at.Goals as goal
 
-pub returns-in_default : goal.returns-in_default
-returns-in_default c = after_fails 83 (key c.args.top) _ _ _ c.byte_at-letter.ensures c.in_default.not-Value
+pub returns-in_err-byte_at : goal.returns-in_err-byte_at
+returns-in_err-byte_at c =
+    hands_on _ _ _ _ c.from_residual.ensures.1 c.in_err-byte_at.was (after_fails 83 (key c.args.top) _ _ _ c.byte_at.ensures)
 
 pub returns : goal.returns
-returns c =
-    after_told 83 (key c.args.top) _ _ _ _ _ c.byte_at-letter.ensures
-    c.in-Value.is c.key_at.ensures
+returns c = after_told 83 (key c.args.top) _ _ _ _ _ c.byte_at.ensures c.in_ok-byte_at.was c.key_at.ensures

@@ -8,8 +8,8 @@ returns-then-at-size c = simp (eq-eqb _ _ c.if-at-size.true)
 
 pub returns-then-size-at : goal.returns-then-size-at
 unfolding left_over
-returns-then-size-at c = simp (ne_eqb _ _ c.if-at-size.false, ← c.unit-w.ensures, lt-ltb _ _ c.if-size-at.true)
+returns-then-size-at c = simp (ne_eqb _ _ c.if-at-size.false, ← c.unit.ensures, lt-ltb _ _ c.if-size-at.true)
 
 pub returns : goal.returns
 unfolding left_over
-returns c = simp (ne_eqb _ _ c.if-at-size.false, ← c.unit-w.ensures, le-ltb _ _ c.if-size-at.false)
+returns c = simp (ne_eqb _ _ c.if-at-size.false, ← c.unit.ensures, le-ltb _ _ c.if-size-at.false)

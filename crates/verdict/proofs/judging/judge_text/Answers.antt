@@ -1,12 +1,12 @@
-use mathlib.Core.List.{[]}
-use Rattle.verdict.proofs.Answers.{text_refused, sign_few, text_judged}
+use Rattle.token.proofs.Handed.{handed}
+use Rattle.verdict.proofs.Texts.{text_refused, sign_few, text_judged}
 use Rattle.verdict.proofs.judging.judge_text.Goals as goal
 
-pub returns-then-number-ne-DONE : goal.returns-then-number-ne-DONE
-returns-then-number-ne-DONE c = text_refused _ _ _ _ _ _ _ c.read_into-h.ensures _ _ c.if-number-ne-DONE.true c.refused.ensures
+pub returns-in_err-head : goal.returns-in_err-head
+returns-in_err-head c = rw (handed _ _ c.from_residual.ensures.1) (text_refused _ _ _ _ c.read_into.ensures _ _ c.in_err-head.was)
 
 pub judge-requires : goal.judge-requires
-judge-requires c = (c.requires, (sign_few _ _ _ _ _ _ _ c.read_into-h.ensures [] c.if-number-ne-DONE.false).0, (sign_few _ _ _ _ _ _ _ c.read_into-h.ensures [] c.if-number-ne-DONE.false).1)
+judge-requires c = sign_few _ _ _ _ c.read_into.ensures c.args.conditions.words.now _ c.in_ok-head.was
 
 pub returns : goal.returns
-returns c = text_judged _ _ _ _ _ _ _ c.read_into-h.ensures _ _ c.if-number-ne-DONE.false c.judge.ensures
+returns c = text_judged _ _ _ _ c.read_into.ensures _ _ c.in_ok-head.was _ c.judge.ensures

@@ -1,12 +1,12 @@
-use mathlib.Core.List.{[]}
-use Rattle.verdict.proofs.Answers.{sign_few, meeting_refused, meeting_judged}
+use Rattle.token.proofs.Handed.{handed}
+use Rattle.verdict.proofs.Texts.{sign_few, meeting_refused, meeting_judged}
 use Rattle.verdict.proofs.judging.meets_text.Goals as goal
 
-pub returns-then-number-ne-DONE : goal.returns-then-number-ne-DONE
-returns-then-number-ne-DONE c = meeting_refused _ _ _ _ _ _ _ c.read_into-h.ensures _ c.if-number-ne-DONE.true
+pub returns-in_err-head : goal.returns-in_err-head
+returns-in_err-head c = rw (handed _ _ c.from_residual.ensures.1) (meeting_refused _ _ _ _ c.read_into.ensures _ _ c.in_err-head.was)
 
-pub meets-met-requires : goal.meets-met-requires
-meets-met-requires c = (c.requires, (sign_few _ _ _ _ _ _ _ c.read_into-h.ensures [] c.if-number-ne-DONE.false).0, (sign_few _ _ _ _ _ _ _ c.read_into-h.ensures [] c.if-number-ne-DONE.false).1)
+pub meets-requires : goal.meets-requires
+meets-requires c = sign_few _ _ _ _ c.read_into.ensures c.args.conditions.words.now _ c.in_ok-head.was
 
 pub returns : goal.returns
-returns c = meeting_judged _ _ _ _ _ _ _ c.read_into-h.ensures _ c.if-number-ne-DONE.false _ c.meets-met.ensures
+returns c = meeting_judged _ _ _ _ c.read_into.ensures _ _ c.in_ok-head.was _ c.meets.ensures

@@ -13,17 +13,14 @@ pub put_spatial-next-requires : goal.put_spatial-next-requires
 put_spatial-next-requires c =
     let a = c.args in
     let h = c.loop-i-test.true in (
-      putting_room _ _ (spatial_size_lem a.set) c.requires.4 c.loop-i.invariant h,
-      all_upto ValidSymbol (symbol_at a.codes.now a.xs.now a.ys.now) _ c.requires.5 _ h,
+      putting_room _ _ (spatial_size_lem a.set) c.requires.1 c.loop-i.invariant h,
+      all_upto ValidSymbol (symbol_at a.symbols.now) _ c.requires.2 _ h,
     )
 
 pub loop-i-preserved : goal.loop-i-preserved
 loop-i-preserved c = putting_more _ _ c.loop-i.invariant c.loop-i-test.true c.put_spatial-next.ensures
 
-pub shape_of-out : goal.shape_of-out
-shape_of-out c = c.loop-i.invariant.wrote.same
-
 pub returns : goal.returns
 returns c =
     let a = c.args in
-    wrote_as (putting_all _ _ c.loop-i.invariant c.loop-i-test.false) (symbols_text_lem a.set (symbol_at a.codes.now a.xs.now a.ys.now) a.n)
+    wrote_as (putting_all _ _ c.loop-i.invariant c.loop-i-test.false) (symbols_text_lem a.set (symbol_at a.symbols.now) a.n)

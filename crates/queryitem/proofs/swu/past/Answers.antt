@@ -1,7 +1,0 @@
-use Rattle.queryitem.proofs.swu.past.Goals as goal
-
-pub returns-then-stands : goal.returns-then-stands
-returns-then-stands c = rw c.if-stands.true
-
-pub returns : goal.returns
-returns c = rw c.if-stands.false
