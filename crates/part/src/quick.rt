@@ -1,5 +1,6 @@
 // A quick look at a part of a sign behind one test of the length, once for both sets. What it finds is there; where it finds
-// nothing, the careful reader says what is wrong and where.
+// nothing, the careful reader says what is wrong and where. The steps are always inlined: as calls they make
+// reading a sign a quarter slower.
 ghost use Rattle.std.specs.Prelude.{◌+◌, ◌^◌, ◌≤◌, length};
 ghost use Rattle.charset.specs.Tokens.{last_punctuation, tokens};
 ghost use Rattle.grammar.specs.Sign.{lead, spatial, prefix_symbol};
@@ -12,6 +13,7 @@ use charset::Charset;
 use token::reading::{LAST_LOCATION, LAST_WRITING, marker_size, number_size, symbol_size};
 
 // The marker of a signbox.
+#[inline(always)]
 fn marker(set: Charset, s: &[u8], at: usize) -> Option<u16>
     requires { at + (tokens set).marker_size ≤ length s.now }
     ensures { Sure (tokens set).marker_size ((tokens set).marker 1 4) s.now at result }
@@ -23,6 +25,7 @@ fn marker(set: Charset, s: &[u8], at: usize) -> Option<u16>
 }
 
 // The code of a symbol with a base of at most top.
+#[inline(always)]
 fn symbol(set: Charset, s: &[u8], at: usize, top: u16) -> Option<u16>
     requires { (at + (tokens set).symbol_size ≤ length s.now) × (0x100 ≤ top) × (top ≤ last_punctuation) }
     ensures { Sure (tokens set).symbol_size ((tokens set).symbol top) s.now at result }
@@ -34,6 +37,7 @@ fn symbol(set: Charset, s: &[u8], at: usize, top: u16) -> Option<u16>
 }
 
 // The first number of a coordinate.
+#[inline(always)]
 fn number(set: Charset, s: &[u8], at: usize) -> Option<u16>
     requires { at + (tokens set).number_size ≤ length s.now }
     ensures { Sure (tokens set).number_size (tokens set).number s.now at result }
@@ -45,6 +49,7 @@ fn number(set: Charset, s: &[u8], at: usize) -> Option<u16>
 }
 
 // The second number.
+#[inline(always)]
 fn second(set: Charset, s: &[u8], at: usize) -> Option<u16>
     requires { at + (tokens set).second_size ≤ length s.now }
     ensures { Sure (tokens set).second_size (tokens set).second s.now at result }
@@ -56,6 +61,7 @@ fn second(set: Charset, s: &[u8], at: usize) -> Option<u16>
 }
 
 // The coordinate that follows a code or a marker.
+#[inline(always)]
 fn point_after(set: Charset, s: &[u8], at: usize, value: u16) -> Option<Placed>
     requires { at + ((tokens set).number_size + (tokens set).second_size) ≤ length s.now }
     ensures { SureAfter (tokens set) s.now at value result }
