@@ -2,11 +2,12 @@
 // the answer.
 #![tactic(auto)]
 
-ghost use Rattle.std.specs.Prelude.{ℕ, ◌≤◌, length};
+ghost use Rattle.std.specs.Prelude.{ℕ, ◌≤◌, length, take, IfOk};
+ghost use Rattle.std.specs.Io.KnownBytes.{Consumes};
 ghost use Rattle.io.specs.Counts.{IsPrefixLen};
-ghost use Rattle.input.specs.Reads.{bytes_read};
+ghost use Rattle.input.specs.Reads.{bytes_read, IsFirst, Answers};
 
-use std::io::{Print, Read};
+use std::io::{Read, Write};
 
 // One byte more than the largest good input: what is longer is seen to be too long.
 const INPUT_BYTES: usize = 50178;
@@ -20,9 +21,18 @@ pub struct CutShort {
     pub read: usize,
 }
 
-// Reads until the input ends or the buffer is full, and returns how many bytes were read.
+// Why an answer is not told: the input could not be read, or the answer could not be written.
+#[derive(Clone, Copy, Debug, PartialEq, Eq)]
+pub enum Untold {
+    Unread,
+    Unwritten,
+}
+
+// Reads until the input ends or the buffer is full, and returns how many bytes were read. What was not read the reader still has.
 pub fn read_input<R: Read>(reader: &mut R, buf: &mut [u8]) -> Result<usize, CutShort>
-    ensures { IsPrefixLen (bytes_read result) buf.new }
+    ensures count { IsPrefixLen (bytes_read result) buf.new }
+    ensures bytes { Consumes (R.remaining reader.old) (R.remaining reader.new) (take (bytes_read result) buf.new) }
+    ensures first { IfOk result (λ n. IsFirst (R.remaining reader.old) (length buf.new) (take n buf.new)) }
 {
     let mut n = 0;
     // `while`: a read says how far it came
@@ -36,23 +46,42 @@ pub fn read_input<R: Read>(reader: &mut R, buf: &mut [u8]) -> Result<usize, CutS
     Ok(n)
 }
 
-// Answers standard input on standard output by `report`, which fills the start of a memory and returns how far. Where reading fails
-// nothing is answered, so that a part of the input is never taken for all of it.
+// Answers what a reader gives by `report`, which fills the start of a memory and returns how far. Where reading fails nothing is
+// written, so that a part of the input is never taken for all of it.
+pub fn answer_by<R: Read, W: Write, F: FnOnce(&[u8], &mut [u8; 12320]) -> usize>(
+    reader: &mut R,
+    writer: &mut W,
+    report: F,
+) -> Result<(), Untold>
+    requires callable { F.IsAlwaysCallable report }
+    requires fits { (text : _) (out : _) (n : ℕ) (after : _) → F.post report text out n after → n ≤ length after.now }
+    ensures { Answers (F.post report) (R.remaining reader.old) (W.contents writer.old) (W.contents writer.new) result }
+{
+    let mut input = [0u8; INPUT_BYTES];
+    let Ok(n) = read_input(reader, &mut input) else {
+        return Err(Untold::Unread);
+    };
+    let mut out = [0u8; ANSWER_BYTES];
+    let k = report(&input[..n], &mut out);
+    if writer.write_all(&out[..k]).is_err() {
+        return Err(Untold::Unwritten);
+    }
+    Ok(())
+}
+
+// The same from standard input to standard output, and a sentence on standard error where it fails. No contract knows what these
+// hold, so what is promised is in `answer_by`.
 pub fn answer<F: FnOnce(&[u8], &mut [u8; 12320]) -> usize>(rt: &HostRuntime, name: &str, report: F)
     requires callable { F.IsAlwaysCallable report }
     requires fits { (text : _) (out : _) (n : ℕ) (after : _) → F.post report text out n after → n ≤ length after.now }
 {
-    let mut input = [0u8; INPUT_BYTES];
-    match read_input(&mut rt.stdin(), &mut input) {
-        Err(_) => {
+    match answer_by(&mut rt.stdin(), &mut rt.stdout(), report) {
+        Ok(()) => {}
+        Err(Untold::Unread) => {
             let _ = eprintln!(rt; "{name}: standard input could not be read.");
         }
-        Ok(n) => {
-            let mut out = [0u8; ANSWER_BYTES];
-            let k = report(&input[..n], &mut out);
-            if rt.write_all(&out[..k]).is_err() {
-                let _ = eprintln!(rt; "{name}: the answer could not be written.");
-            }
+        Err(Untold::Unwritten) => {
+            let _ = eprintln!(rt; "{name}: the answer could not be written.");
         }
     }
 }

@@ -13,7 +13,10 @@ fn met(witnesses: [u16; 32]) -> [u64; 36]
 {
     let mut all = [0u64; 36];
     all[2] = 1;
-    all[4..].copy_from_slice(&witnesses.map(|w| u64::from(w)));
+    // a loop: by `map` the compiler takes the 32 one by one
+    for i in 0..32 {
+        all[4 + i] = u64::from(witnesses[i]);
+    }
     all
 }
 

@@ -34,7 +34,10 @@ fn fits_one(words: &[u16], at: usize, code: u16) -> bool
     let lo = words[at];
     let hi = words[at + 1];
     let turn = words[at + 2];
-    (turn == 16 || code % 16 == turn) && lo <= code && code <= hi
+    if turn != 16 && code % 16 != turn {
+        return false;
+    }
+    lo <= code && code <= hi
 }
 
 // Whether two numbers differ by at most the variance.

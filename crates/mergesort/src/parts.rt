@@ -26,13 +26,24 @@ impl Order<'_> {
     }
 }
 
+// Copies the first n entries of a list to the front of another. A loop, since `copy_from_slice` between two lent memories calls memmove,
+// which an archive for C would then need from outside.
+fn copy_front(from: &[u16], n: usize, to: &mut [u16])
+    requires { (n ≤ length from.now) × (n ≤ length to.old) }
+    ensures { to.new ≡ take n from.now ++ drop n to.old }
+{
+    for i in 0..n {
+        to[i] = from[i];
+    }
+}
+
 // Merges the first h entries of a list with those after them. The first h wait in the spare list, so that the list is written from
 // its front; what the spare list holds then is free.
 fn merge_parts(order: &Order<'_>, list: &mut [u16], h: usize, spare: &mut [u16])
     requires { (h ≤ length list.old) × (h ≤ length spare.old) }
     ensures { list.new ≡ merge (before order.now) (take h list.old) (drop h list.old) }
 {
-    spare[..h].copy_from_slice(&list[..h]);
+    copy_front(list, h, spare);
     let mut i: usize = 0;
     let mut j = h;
     let mut k: usize = 0;

@@ -1,8 +1,8 @@
 -- What a caller knows of an item and of a coordinate, as they are answered.
 use Prim.Native.Nat.{ℕ}
 use mathlib.Core.List.{List}
-use mathlib.Core.Path.{◌≡◌, refl}
-use mathlib.Core.Bool.{Bool, true, false, not}
+use mathlib.Core.Path.{◌≡◌, refl, sym}
+use mathlib.Core.Bool.{Bool, true, false, not, true≢false}
 use mir.Val.{bool_byte}
 use mathlib.Core.Option.{Option}
 use lib.ListN.{length}
@@ -20,7 +20,7 @@ use Rattle.queryitem.specs.declared.reading.Numbers.{Numbers}
 use Rattle.std.specs.Prelude.{Ok, Err, Result as Answer, Option as Optional}
 use Rattle.token.specs.declared.refusal.Refusal.{Refusal}
 use Rattle.queryitem.specs.Numbers.{optionally, numbers_of}
-use Rattle.queryitem.specs.Pieces.{told_piece, Piece, piece_at, fsw_at, swu_at, item_of, item_at, coordinate_at, PieceResult, PlaceResult}
+use Rattle.queryitem.specs.Pieces.{told_piece, Piece, piece_at, fsw_at, swu_at, item_of, in_swu, has_null, item_at, coordinate_at, PieceResult, PlaceResult}
 use Rattle.queryitem.proofs.Chains.{FailsAs}
 
 pub item_first : (boxed : Bool) (s : List ℕ) (at : ℕ) → fsw_at false s at ≡ item_at First boxed s at
@@ -37,6 +37,17 @@ pub item_swu : (boxed : Bool) (s : List ℕ) (at : ℕ) → swu_at (bool_byte bo
 unfolding item_at
 item_swu true s at = refl
 item_swu false s at = refl
+
+-- by the two tests of an edition
+pub item_in_fsw : (e : Edition) (boxed : Bool) (s : List ℕ) (at : ℕ) → in_swu e ≡ false → fsw_at (has_null e boxed) s at ≡ item_at e boxed s at
+item_in_fsw First boxed s at n = item_first boxed s at
+item_in_fsw (Second Fsw) boxed s at n = item_fsw boxed s at
+item_in_fsw (Second Swu) boxed s at n = absurd (true≢false n)
+
+pub edition_in_swu : (e : Edition) → in_swu e ≡ true → e ≡ Second Swu
+edition_in_swu First y = absurd (true≢false (sym y))
+edition_in_swu (Second Fsw) y = absurd (true≢false (sym y))
+edition_in_swu (Second Swu) y = refl
 
 pub item_laws : (e : Edition) (boxed : Bool) → Laws Unmarked (item_of (spelling e) boxed)
 item_laws e true = (lawful e).signbox_item

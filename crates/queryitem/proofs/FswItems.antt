@@ -2,7 +2,7 @@
 use Prim.Native.Nat.{ℕ, ◌+◌}
 use mathlib.Core.List.{List}
 use mathlib.Core.Path.{◌≡◌, refl, sym, ap, ◌∙◌}
-use mathlib.Core.Bool.{true, false}
+use mathlib.Core.Bool.{Bool, true, false}
 use mathlib.Core.Logic.{◌⊎◌, inl, inr}
 use lib.ListN.{length, drop}
 use Rattle.format.specs.Format.{Format}
@@ -21,7 +21,7 @@ use Rattle.token.proofs.Told.{told_at}
 use Rattle.querygrammar.specs.Spelling.{KeyText, key_tail, range_text, key_in, ValidKey, key_only, null_or_key, fsw_item, fsw_meaning, null_item}
 use Rattle.queryitem.specs.declared.reading.Numbers.{Numbers}
 use Rattle.queryitem.specs.Numbers.{numbers_of}
-use Rattle.queryitem.specs.Pieces.{Piece, piece_at, symbol_at}
+use Rattle.queryitem.specs.Pieces.{Piece, piece_at, null_at, symbol_at}
 use Rattle.queryitem.proofs.Chains.{byte_there, wrong_token, FailsAs, token_fails, short_token, found_piece, piece_fails, piece_is, after_fails, after_next, first_piece, second_piece}
 
 abbrev symbol_numbers : ℕ ⊎ KeyText → Numbers
@@ -61,6 +61,19 @@ module _ (s : List ℕ) (at : ℕ) where
     null_fails r v n =
         let f = token_fails null s at t r e v in
         null-first (Err r) (not-here r (locate null s at) f n) (piece_fails null (λ c. numbers_of null_item) s at r f)
+
+-- with null among the symbols or without
+pub symbol_null : (null : Bool) (s : List ℕ) (at : ℕ) (t : Answer ℕ Refusal) → t ≡ null_at null s at → (a : ℕ) (n : Numbers) → t ≡ Ok a → n ≡ numbers_of null_item → Ok (n, at + 5) ≡ symbol_at null s at
+symbol_null true s at t e a n v q = null_found s at t e a n v q
+symbol_null false s at t e a n v q = absurd (let z : ◌≡◌ {A = Answer ℕ Refusal} (Ok a) (Err (TextWrong at)) = sym v ∙ e in cc)
+
+pub symbol_key : (null : Bool) (s : List ℕ) (at : ℕ) (t : Answer ℕ Refusal) → t ≡ null_at null s at → (d : Refusal) (r : Piece) → t ≡ Err d → d ≡ TextWrong at → KeyAt s at r → r ≡ symbol_at null s at
+symbol_key true s at t e d r v z k = key-after s at t e d r v z k
+symbol_key false s at t e d r v z k = key_only_lem s at r k
+
+pub symbol_fails : (null : Bool) (s : List ℕ) (at : ℕ) (t : Answer ℕ Refusal) → t ≡ null_at null s at → (r : Refusal) → t ≡ Err r → (r ≡ TextWrong at → ⊥) → Err r ≡ symbol_at null s at
+symbol_fails true s at t e r v n = null_fails s at t e r v n
+symbol_fails false s at t e r v n = absurd (n (let z : ◌≡◌ {A = Answer ℕ Refusal} (Err r) (Err (TextWrong at)) = sym v ∙ e in cc))
 
 -- AN ITEM
 

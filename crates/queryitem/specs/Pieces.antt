@@ -1,14 +1,15 @@
 -- What a function that reads an item, or a part of one, at an offset of a text answers, and what each answer comes to.
-use Rattle.std.specs.Prelude.{Result as Answer, Ok, Err, Option as Optional, ℕ, ◌+◌, ◌≤◌, ◌≡◌, List, Bool, true, false, ◌⊎◌, length}
+use Rattle.std.specs.Prelude.{Result as Answer, Ok, Err, Option as Optional, ℕ, ◌+◌, ◌≤◌, ◌≡◌, List, Bool, true, false, not, ◌⊎◌, length}
 use Rattle.std.proofs.Common.{inl, inr}
 use Rattle.std.proofs.Math.Option.{Option, none, some}
 use Rattle.format.specs.Format.{Format, optional}
 use Rattle.format.specs.Located.{Located, found, wrong_at, short_here, locate, on_found}
 use Rattle.charset.specs.declared.Charset.TheVariants.{Fsw, Swu}
 use Rattle.charset.specs.Bytes.{byte}
+use Rattle.charset.specs.Tokens.{null}
 use Rattle.token.specs.declared.refusal.Refusal.{Refusal}
 use Rattle.token.specs.declared.refusal.Refusal.TheVariants.{TextWrong, TextShort}
-use Rattle.token.specs.Token.{told}
+use Rattle.token.specs.Token.{told, token_at}
 use Rattle.token.specs.Result.{outcome, of_located}
 use Rattle.querygrammar.specs.declared.Edition.{Edition}
 use Rattle.querygrammar.specs.declared.Edition.TheVariants.{First, Second}
@@ -46,6 +47,11 @@ open_at top s at = told (length s) (on_found given (locate (or_any top) s at))
 abbrev pub symbol : Bool → Format (ℕ ⊎ KeyText)
 symbol true = null_or_key
 symbol false = key_only
+
+-- null where it may stand, otherwise wrong at once
+abbrev pub null_at : Bool → List ℕ → ℕ → Answer ℕ Refusal
+null_at true s at = token_at null s at
+null_at false s at = Err (TextWrong at)
 
 abbrev pub symbol_at : Bool → List ℕ → ℕ → Piece
 symbol_at may s at = piece_at (symbol may) (λ v. numbers_of (fsw_meaning (inl v))) s at
@@ -86,6 +92,16 @@ swu_at least s at = piece_at (swu_item least) (λ a. numbers_of (swu_meaning a))
 abbrev pub item_of : (s : Spelling) → Bool → Format s.Says
 item_of s true = s.signbox_item
 item_of s false = s.prefix_item
+
+-- whether an edition is in SWU, and whether null may be sought
+abbrev pub in_swu : Edition → Bool
+in_swu First = false
+in_swu (Second Fsw) = false
+in_swu (Second Swu) = true
+
+abbrev pub has_null : Edition → Bool → Bool
+has_null First boxed = false
+has_null (Second set) boxed = not boxed
 
 unfoldable pub item_at : Edition → Bool → List ℕ → ℕ → Piece
 item_at e boxed s at = piece_at (item_of (spelling e) boxed) (λ a. numbers_of ((spelling e).means a)) s at

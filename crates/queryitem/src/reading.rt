@@ -4,7 +4,7 @@ ghost use Rattle.std.proofs.Common.{inl, inr};
 ghost use Rattle.token.specs.Token.{token_at};
 ghost use Rattle.querygrammar.specs.Spelling.{query_base, key_item, range_item, null_item, key_tail, range_text, fsw_meaning};
 ghost use Rattle.queryitem.specs.Numbers.{plain, turn_of, numbers_of};
-ghost use Rattle.queryitem.specs.Pieces.{open_at, piece_at, symbol_at, fsw_at};
+ghost use Rattle.queryitem.specs.Pieces.{open_at, piece_at, null_at, symbol_at, fsw_at};
 
 use token::numerals::{Hexadecimal, digit_at, three_at};
 use token::reading::LAST_PUNCTUATION;
@@ -107,16 +107,24 @@ fn key_at(s: &[u8], at: usize) -> Result<(Numbers, usize), Refusal>
     Ok((key_numbers(base, fill, rotation), at + 5))
 }
 
-// What follows the S of a symbol key or, where null may stand, of null.
+// Null where it may stand, otherwise wrong at once.
+fn null_or_wrong_at(s: &[u8], at: usize, null: bool) -> Result<u16, Refusal>
+    requires { at + 32 ≤ 2 ^ 64 }
+    ensures { result ≡ null_at null s.now at }
+{
+    if null {
+        return token::reading::null_at(s, at);
+    }
+    Err(Refusal::TextWrong(at))
+}
+
+// What follows the S of a symbol key or, where null may stand, of null. A key is read at one place, so that the compiler takes it in.
 // `null` is a bool, since the edition and the part that is read set it.
 fn symbol_at(s: &[u8], at: usize, null: bool) -> Result<(Numbers, usize), Refusal>
     requires { at + 32 ≤ 2 ^ 64 }
     ensures { result ≡ symbol_at null s.now at }
 {
-    if !null {
-        return key_at(s, at);
-    }
-    match token::reading::null_at(s, at) {
+    match null_or_wrong_at(s, at, null) {
         Ok(_) => Ok((null_numbers(), at + 5)),
         Err(refusal) if refusal.is_wrong_at(at) => key_at(s, at),
         Err(refusal) => Err(refusal),

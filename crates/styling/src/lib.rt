@@ -2,8 +2,9 @@
 // array that the caller lends: 7 KB are too much to hand out by value, and the array crosses into C as it is.
 #![tactic(auto)]
 
-ghost use Rattle.std.specs.Prelude.{◌≡◌};
+ghost use Rattle.std.specs.Prelude.{◌≡◌, ◌+◌, ◌≤◌, length};
 ghost use Rattle.token.specs.Result.{as_written, written, output};
+ghost use Rattle.token.specs.Wrote.{Wrote};
 ghost use Rattle.sign.specs.Reading.{as_reading};
 ghost use Rattle.styling.specs.Reading.{styled_of, styled_reading, record_left};
 ghost use Rattle.styling.specs.Transcription.{styled_transcription};
@@ -31,6 +32,18 @@ pub fn read_styled(set: Charset, s: &[u8], styling: &mut [u16; RECORD]) -> Resul
     Ok(sign::packing::packed(set, head, &symbols))
 }
 
+// Bytes at an offset, as writer `put_bytes` puts them. A loop, since `copy_from_slice` between two lent memories calls memmove, which an
+// archive for C would then need from outside.
+fn put_rest(out: &mut [u8], at: usize, s: &[u8]) -> usize
+    requires { at + length s.now ≤ length out.old }
+    ensures { Wrote out.old out.new at result s.now }
+{
+    for i in 0..s.len() {
+        out[at + i] = s[i];
+    }
+    at + s.len()
+}
+
 // Writes a sign in the other character set, and its styling as it is, and returns the text's length: refused as reading refuses,
 // then as 6.
 pub fn transcribe_styled(set: Charset, s: &[u8], out: &mut [u8]) -> Result<usize, Refusal>
@@ -46,7 +59,7 @@ pub fn transcribe_styled(set: Charset, s: &[u8], out: &mut [u8]) -> Result<usize
         return Err(Refusal::RoomShort(size));
     }
     writer::arrays::write_sign(other, head, &symbols, out)?;
-    put_bytes(out, from, &s[at..]);
+    put_rest(out, from, &s[at..]);
     Ok(size)
 }
 

@@ -48,7 +48,9 @@ impl Digit for Hexadecimal {
     ghost strict = { digit_strict };
 }
 
-// One digit of lo to hi.
+// One digit of lo to hi. This and what follows are always inlined: their limits are numbers where they are called, and as a call a
+// number of three digits takes twice as long.
+#[inline(always)]
 pub fn digit_at<D: Digit>(s: &[u8], at: usize, lo: u16, hi: u16) -> Result<u16, Refusal>
     ensures { result ≡ token_at (one_digit D.value D.byte lo hi) s.now at }
 {
@@ -63,6 +65,7 @@ pub fn digit_at<D: Digit>(s: &[u8], at: usize, lo: u16, hi: u16) -> Result<u16, 
 }
 
 // Two digits that say a number of lo to hi, the first with the weight p.
+#[inline(always)]
 pub fn two_at<D: Digit>(s: &[u8], at: usize, p: u16, lo: u16, hi: u16) -> Result<u16, Refusal>
     requires { (at + 8 ≤ 2 ^ 64) × (lo ≤ hi) × Weights D.top D.top hi (p ∷ []) }
     ensures { result ≡ token_at (number_in D.value D.byte (p ∷ []) lo hi) s.now at }
@@ -76,6 +79,7 @@ pub fn two_at<D: Digit>(s: &[u8], at: usize, p: u16, lo: u16, hi: u16) -> Result
 }
 
 // Three digits that say a number of lo to hi, the first two with the weights p and q.
+#[inline(always)]
 pub fn three_at<D: Digit>(
     s: &[u8],
     at: usize,

@@ -24,6 +24,6 @@ pub fn meets_text(set: Charset, text: &[u8], conditions: Conditions) -> Result<b
     ensures { outcome result ≡ met_on_words conditions.entry.words.now (sign_of set text.now) }
 {
     let mut symbols = Symbols::none();
-    let head = reader::arrays::read_into(set, text, &mut symbols)?;
-    Ok(conditions.meets(head, &symbols))
+    let sign = reader::arrays::read_into(set, text, &mut symbols)?;
+    Ok(conditions.meets(sign, &symbols))
 }

@@ -20,6 +20,10 @@ use Rattle.writer.specs.Arrays.{upto, prefix_text, symbols_text}
 use Rattle.writer.proofs.Upto.{list_size, map_upto}
 
 -- The bytes of each part.
+pub number_size_lem : (set : Charset) (n : ℕ) → length ((tokens set).number.write n) ≡ (tokens set).number_size
+number_size_lem Fsw n = refl
+number_size_lem Swu n = refl
+
 pub marker_size_lem : (set : Charset) (m : ℕ) → length (((tokens set).marker 0 4).write m) ≡ (tokens set).marker_size
 marker_size_lem Fsw m = refl
 marker_size_lem Swu m = refl

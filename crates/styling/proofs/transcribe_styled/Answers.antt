@@ -30,14 +30,14 @@ pub returns-in_err-write_sign : goal.returns-in_err-write_sign
 returns-in_err-write_sign c =
     never_short _ _ _ _ _ c.in_ok-head.ensures.sign _ c.other_set-other.ensures _ c.sign_size-from.ensures _ _ c.if-out-size.false _ c.write_sign.ensures _ c.in_err-write_sign.was
 
-pub slice_bounds-put_bytes-count : goal.slice_bounds-put_bytes-count
-slice_bounds-put_bytes-count c =
+pub slice_bounds-put_rest-count : goal.slice_bounds-put_rest-count
+slice_bounds-put_rest-count c =
     place_inside _ _ _ _ _ c.in_ok-head.ensures.sign
 
-pub slice_bounds-put_bytes-start : goal.slice_bounds-put_bytes-start
-slice_bounds-put_bytes-start c =
+pub slice_bounds-put_rest-start : goal.slice_bounds-put_rest-start
+slice_bounds-put_rest-start c =
     place_inside _ _ _ _ _ c.in_ok-head.ensures.sign
 
 pub returns : goal.returns
 returns c =
-    transcribed-done _ _ _ _ _ c.in_ok-head.ensures.sign _ c.other_set-other.ensures _ c.sign_size-from.ensures _ _ c.if-out-size.false _ c.write_sign.ensures _ _ c.put_bytes.ensures
+    transcribed-done _ _ _ _ _ c.in_ok-head.ensures.sign _ c.other_set-other.ensures _ c.sign_size-from.ensures _ _ c.if-out-size.false _ c.write_sign.ensures _ _ c.put_rest.ensures
