@@ -23,7 +23,8 @@
  * a state: calls on different memory may run at the same time, and any number may read the same
  * text, size list or dictionary. halofret_sort needs 160 KB of stack below its caller,
  * halofret_narrow_sorted 32 KB, halofret_search and halofret_narrow 24 KB, halofret_write_styling
- * 13 KB, every other function 6 KB.
+ * 13 KB, every other function 6 KB; the first call of a process takes 3 KB more where it has
+ * memset or memcpy bound.
  *
  * Time grows with the length of what is lent, in halofret_fetch with that of both dictionaries,
  * whichever line is asked for; in halofret_sort also with n times the logarithm of n.
