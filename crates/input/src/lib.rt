@@ -7,6 +7,7 @@ ghost use Rattle.std.specs.Io.KnownBytes.{Consumes};
 ghost use Rattle.io.specs.Counts.{IsPrefixLen};
 ghost use Rattle.input.specs.Reads.{bytes_read, IsFirst, Answers};
 
+use std::fmt;
 use std::io::{Read, Write};
 
 // One byte more than the largest good input: what is longer is seen to be too long.
@@ -26,6 +27,15 @@ pub struct CutShort {
 pub enum Untold {
     Unread,
     Unwritten,
+}
+
+impl fmt::Display for Untold {
+    fn fmt<W: fmt::Write>(&self, f: &mut fmt::Formatter<W>) -> fmt::Result {
+        match self {
+            Untold::Unread => write!(f, "standard input could not be read."),
+            Untold::Unwritten => write!(f, "the answer could not be written."),
+        }
+    }
 }
 
 // Reads until the input ends or the buffer is full, and returns how many bytes were read. What was not read the reader still has.
@@ -67,21 +77,4 @@ pub fn answer_by<R: Read, W: Write, F: FnOnce(&[u8], &mut [u8; 12320]) -> usize>
         return Err(Untold::Unwritten);
     }
     Ok(())
-}
-
-// The same from standard input to standard output, and a sentence on standard error where it fails. No contract knows what these
-// hold, so what is promised is in `answer_by`.
-pub fn answer<F: FnOnce(&[u8], &mut [u8; 12320]) -> usize>(rt: &HostRuntime, name: &str, report: F)
-    requires callable { F.IsAlwaysCallable report }
-    requires fits { (text : _) (out : _) (n : ℕ) (after : _) → F.post report text out n after → n ≤ length after.now }
-{
-    match answer_by(&mut rt.stdin(), &mut rt.stdout(), report) {
-        Ok(()) => {}
-        Err(Untold::Unread) => {
-            let _ = eprintln!(rt; "{name}: standard input could not be read.");
-        }
-        Err(Untold::Unwritten) => {
-            let _ = eprintln!(rt; "{name}: the answer could not be written.");
-        }
-    }
 }

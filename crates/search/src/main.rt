@@ -2,5 +2,7 @@
 #![tactic(auto)]
 
 fn main(rt: HostRuntime) {
-    input::answer(&rt, "search", report::report);
+    if let Err(untold) = input::answer_by(&mut rt.stdin(), &mut rt.stdout(), report::report) {
+        let _ = eprintln!(rt; "search: {untold}");
+    }
 }

@@ -2,5 +2,11 @@
 #![tactic(auto)]
 
 fn main(rt: HostRuntime) {
-    input::answer(&rt, "wordbook", report::report_sorted);
+    if let Err(untold) = input::answer_by(
+        &mut rt.stdin(),
+        &mut rt.stdout(),
+        report::report_sorted,
+    ) {
+        let _ = eprintln!(rt; "wordbook: {untold}");
+    }
 }
