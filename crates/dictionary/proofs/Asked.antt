@@ -35,11 +35,11 @@ same_verdict e s q x (done m) = let a = query_accepted e s q x in ap answered (w
 
 module _ {e : Edition} {s : List ℕ} {r : Answer ⊤ Refusal} {words : List ℕ} (v : ReadInto e s word_count r words) (set : Charset) (dict : List ℕ) where
   pub asked_refused : {d : Refusal} → r ≡ Err d → test_of set dict (e, s) ≡ refusal (number_of d) (place_of d)
-  asked_refused {d} was = ap (on_done (meets set dict)) (read_failed e s word_count (all_fit e s) r words v d was)
+  asked_refused {d} was = ap (on_done (meets set dict)) (read_failed e s r v.is d was)
 
   pub asked_done : {u : ⊤} → r ≡ Ok u → test_of set dict (e, s) ≡ done (meets_words set dict words)
   asked_done {u} was =
-      let k = read_done e s word_count (all_fit e s) r words v u was in
+      let k = read_done e s word_count r words v (all_fit e s) u was in
       let same : meets_words set dict words ≡ meets set dict k.query =
       λ i d. ((ap (λ w. verdict_on_words w (sign_of set (line_of dict d))) k.holds ∙ same_verdict e s k.query k.is (sign_of set (line_of dict d))) i).met in
       ap (on_done (meets set dict)) k.is ∙ ap done (sym same)

@@ -5,9 +5,7 @@ use mathlib.Core.List.{List}
 use mathlib.Core.Bool.{Bool, true, false, not, ◌&&◌, and-eq-true_iff}
 use borrow.Author.Tests.{eqb-true, not-true}
 use lib.Dec.{eqb}
-use Rattle.std.specs.Prelude.{Result as Answer, Ok, Err, MatchResult}
-use Rattle.std.specs.Result.{IsErrAnd}
-use Rattle.std.proofs.lemmas.Result.{err_from_is_err_and}
+use Rattle.std.specs.Prelude.{Result as Answer, Ok, Err}
 use Rattle.format.specs.Format.{choose}
 use Rattle.charset.specs.declared.Charset.{Charset}
 use Rattle.grammar.specs.Sign.{Meaning}
@@ -32,14 +30,14 @@ module _ (words : List ℕ) (set : Charset) (line listed : List ℕ) (i : ℕ) {
   unfolding listed_verdict
   not_listed h = rw (← e, h)
 
-  pub is_listed : b ≡ true → (q : Answer Bool Refusal) → outcome q ≡ met_on_words words (sign_of set line) → (r : Answer Bool Refusal) (P : Refusal → Refusal → Type 0)
-      → MatchResult q (λ x. r ≡ Ok x) (λ d. IsErrAnd r (P d)) → ((d x : Refusal) → P d x → x ≡ LineWrong i) → r ≡ listed_verdict set words line listed i
+  pub is_listed : b ≡ true → (q : Answer Bool Refusal) → outcome q ≡ met_on_words words (sign_of set line) → (r : Answer Bool Refusal)
+      → ((x : Bool) → q ≡ Ok x → r ≡ Ok x) → ((d : Refusal) → q ≡ Err d → r ≡ Err (LineWrong i)) → r ≡ listed_verdict set words line listed i
   unfolding listed_verdict
-  is_listed h q v r P m f = go q m ∙ rw (← e, h) (ap (line_verdict i) v)
+  is_listed h q v r judged wrong = go q refl ∙ rw (← e, h) (ap (line_verdict i) v)
     where
-      go : (q : Answer Bool Refusal) → MatchResult q (λ x. r ≡ Ok x) (λ d. IsErrAnd r (P d)) → r ≡ line_verdict i (outcome q)
-      go (Ok x) m = m
-      go (Err d) m = let p = err_from_is_err_and r m in p.1 ∙ ap Err (f d p.0 p.2)
+      go : (a : Answer Bool Refusal) → q ≡ a → r ≡ line_verdict i (outcome q)
+      go (Ok x) is = rw is (judged x is)
+      go (Err d) is = rw is (wrong d is)
 
 -- A VERDICT on the line of a listed entry is refused exactly where that is no sign
 module _ (words : List ℕ) (set : Charset) (dict listed : List ℕ) (i : ℕ) {v : Answer Bool Refusal} (e : v ≡ listed_verdict set words (line_of dict i) listed i) where

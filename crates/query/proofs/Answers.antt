@@ -1,7 +1,7 @@
 -- The reading by value, and what is known of a reading by its number.
 use Prim.Native.Nat.{ℕ, ◌+◌, ◌*◌, ◌≤◌}
 use mathlib.Core.List.{List}
-use mathlib.Core.Path.{◌≡◌, refl, sym, ap, ◌∙◌}
+use mathlib.Core.Path.{◌≡◌, sym, ap, ◌∙◌}
 use mathlib.Core.Option.{Option, none, some}
 use lib.Dec.{lit<}
 use lib.ListN.{length}
@@ -9,8 +9,9 @@ use native.Mathlib.Omega.{arith}
 use Rattle.std.specs.Prelude.{Result as Answer, Ok, Err, ⊤}
 use Rattle.token.specs.declared.refusal.Refusal.{Refusal}
 use Rattle.token.specs.Refusal.{number_of, place_of, prefix_long, signbox_long, alternatives_long, range_reversed}
-use Rattle.token.specs.Result.{Result, refusal, done, outcome, of_outcome}
-use Rattle.token.proofs.Checks.{Counted, done_counted, refusal_counted, and_then_counted, outcome_counted}
+use Rattle.token.specs.Result.{refusal, done, outcome, of_outcome}
+use Rattle.token.proofs.Checks.{Counted, done_counted, refusal_counted, and_then_counted, outcome_counted, on_done_done}
+use Rattle.token.proofs.Results.{on_done_refusal}
 use Rattle.token.specs.Padded.{padded}
 use Rattle.querygrammar.specs.declared.Edition.{Edition}
 use Rattle.querygrammar.specs.Spelling.{spelling}
@@ -51,52 +52,28 @@ all_fit e s q z = (query_accepted e s q z).room
 pub short_fit : (e : Edition) (s : List ℕ) (n : ℕ) → 8 + 3 * length s + 2 * spare ≤ 2 * n → Fits e s n
 short_fit e s n h q z = let k = query_read e s q z in rw (← k.same) (omega (arith, h, text_size e s k.says k.is))
 
-module _ (e : Edition) (s : List ℕ) (n : ℕ) (fits : Fits e s n) (r : Answer ⊤ Refusal) (words : List ℕ) (v : ReadInto e s n r words) where
-  pub data Known : Type 0 where
-    not_read : (d : Refusal) → r ≡ Err d → query_of e s ≡ refusal (number_of d) (place_of d) → Known
-    was_read : (q : Query) → r ≡ Ok tt → query_of e s ≡ done q → words ≡ padded n (words_of q) → Known
+-- a query that was refused, whatever room there was
+pub read_failed : (e : Edition) (s : List ℕ) (r : Answer ⊤ Refusal) → outcome r ≡ passed (query_of e s) → (d : Refusal) → r ≡ Err d
+    → query_of e s ≡ refusal (number_of d) (place_of d)
+read_failed e s r is d was = on_done_refusal (λ q. tt) (query_of e s) _ _ (sym is ∙ ap outcome was)
 
-  known_go : (a : Answer ⊤ Refusal) (q : Result Query) → r ≡ a → query_of e s ≡ q → outcome a ≡ passed q → Known
-  known_go (Ok u) (done k) x z y = was_read k x z (v.holds k z (fits k z))
-  known_go (Ok u) (refusal m p) x z y = absurd (cc y)
-  known_go (Err d) (done k) x z y = absurd (cc y)
-  known_go (Err d) (refusal m p) x z y = not_read d x (z ∙ same y)
-    where
-      same : ◌≡◌ {A = Result ⊤} (refusal (number_of d) (place_of d)) (refusal m p) → ◌≡◌ {A = Result Query} (refusal m p) (refusal (number_of d) (place_of d))
-      same y = let a : number_of d ≡ m = cc in let b : place_of d ≡ p = cc in λ i. refusal (sym a i) (sym b i)
-
-  pub known : Known
-  known = known_go r (query_of e s) refl refl v.is
-
-  -- by the answer
-  pub read_failed : (d : Refusal) → r ≡ Err d → query_of e s ≡ refusal (number_of d) (place_of d)
-  read_failed d z = go known
-    where
-      go : Known → query_of e s ≡ refusal (number_of d) (place_of d)
-      go (not_read c x q) = q ∙ (let y : c ≡ d = same (sym x ∙ z) in ap (λ c. refusal (number_of c) (place_of c)) y)
-        where
-          same : {c : Refusal} → ◌≡◌ {A = Answer ⊤ Refusal} (Err c) (Err d) → c ≡ d
-          same e = cc
-      go (was_read k x q w) = absurd (let y : ◌≡◌ {A = Answer ⊤ Refusal} (Ok tt) (Err d) = sym x ∙ z in cc)
-
+module _ (e : Edition) (s : List ℕ) (n : ℕ) (r : Answer ⊤ Refusal) (words : List ℕ) (v : ReadInto e s n r words) where
   pub record Read : Type 0 where
     pub query : Query
     pub is : query_of e s ≡ done query
     pub holds : words ≡ padded n (words_of query)
 
-  pub read_done : (u : ⊤) → r ≡ Ok u → Read
-  read_done u z = go known
-    where
-      go : Known → Read
-      go (not_read c x q) = absurd (let y : ◌≡◌ {A = Answer ⊤ Refusal} (Err c) (Ok u) = sym x ∙ z in cc)
-      go (was_read k x q w) = record { query = k; is = q; holds = w }
+  pub read_done : Fits e s n → (u : ⊤) → r ≡ Ok u → Read
+  read_done fits u was =
+      let d = on_done_done (λ q. tt) (query_of e s) (sym v.is ∙ ap outcome was) in
+      record { query = d.0; is = d.1.0; holds = v.holds d.0 d.1.0 (fits d.0 d.1.0) }
 
 -- the reading by value
 module _ (e : Edition) (s : List ℕ) (r : Answer ⊤ Refusal) (words : List ℕ) (v : ReadInto e s word_count r words) where
   pub reading_refused : (d : Refusal) → r ≡ Err d → as_reading (Err d) ≡ reading_of (query_of e s)
   unfolding reading_of
-  reading_refused d z = sym (ap reading_of (read_failed e s word_count (all_fit e s) r words v d z))
+  reading_refused d z = sym (ap reading_of (read_failed e s r v.is d z))
 
   pub reading_done : (u : ⊤) → r ≡ Ok u → record { number = 0; place = 0; words = words } ≡ reading_of (query_of e s)
   unfolding reading_of
-  reading_done u z = let k = read_done e s word_count (all_fit e s) r words v u z in (λ i. record { number = 0; place = 0; words = k.holds i }) ∙ sym (ap reading_of k.is)
+  reading_done u z = let k = read_done e s word_count r words v (all_fit e s) u z in (λ i. record { number = 0; place = 0; words = k.holds i }) ∙ sym (ap reading_of k.is)

@@ -34,6 +34,7 @@ pub struct Sign {
 }
 
 // Reads a sign: refused as 1 or 2, then 3, then 4.
+#[tactic(auto, using(crate::proofs::Readings::reading_refused, token::proofs::Handed::handed))]
 pub fn read(set: Charset, text: &[u8]) -> Result<Sign, Refusal>
     ensures { as_reading result ≡ reading_in set text.now }
 {

@@ -22,6 +22,7 @@ const SHORT_QUERY: usize = 64;
 const SHORT_WORDS: usize = 121;
 
 // The verdict of a query that is read into words, which are zeros and have room for it.
+#[tactic(auto, using(crate::proofs::Answers::query_refused, token::proofs::Handed::handed))]
 fn verdict_in_words(
     set: Charset,
     edition: Edition,

@@ -12,7 +12,7 @@ returns-in_err-read_into c =
     record { answer = ap as_searched (handed _ _ c.from_residual.ensures.1) ∙ r.answer; memory = r.memory }
 
 pub invariant_of-conditions : goal.invariant_of-conditions
-invariant_of-conditions c = record { laid = query_laid _ _ _ (all_fit c.args.edition _) _ _ c.read_into.ensures _ c.in_ok-read_into.was }
+invariant_of-conditions c = record { laid = query_laid _ _ _ _ _ c.read_into.ensures (all_fit c.args.edition _) _ c.in_ok-read_into.was }
 
 pub returns : goal.returns
 returns c = with_done c.read_into.ensures _ _ _ c.in_ok-read_into.was _ _ c.search_by.ensures

@@ -1,12 +1,8 @@
 use Rattle.std.proofs.Common.{◌∙◌, ap}
 use Rattle.std.specs.Prelude.{Ok}
-use Rattle.token.proofs.Handed.{handed}
 use Rattle.sign.specs.Reading.{as_reading}
-use Rattle.sign.proofs.Readings.{laid, reading_refused, reading_done}
+use Rattle.sign.proofs.Readings.{laid, reading_done}
 use Rattle.sign.proofs.read.Goals as goal
-
-pub returns-in_err-head : goal.returns-in_err-head
-returns-in_err-head c = rw (handed _ _ c.from_residual.ensures.1) (reading_refused _ _ _ _ c.read_into.ensures _ c.in_err-head.was)
 
 pub packed-requires : goal.packed-requires
 packed-requires c = (laid _ _ _ _ c.read_into.ensures _ c.in_ok-head.was).counted

@@ -6,7 +6,7 @@ use lib.IntN.{ℤ}
 use mir.Syntax.{w64}
 use mir.Val.{SFits, to_z, of_z}
 use mir.Facts.{to_z-of_z}
-use Rattle.std.specs.Prelude.{Result as Answer, Err}
+use Rattle.std.specs.Prelude.{Result as Answer, Ok, Err}
 use Rattle.token.specs.declared.refusal.Refusal.{Refusal}
 use Rattle.token.specs.Result.{as_written, written, output}
 use Rattle.token.proofs.Handed.{handed}
@@ -36,7 +36,7 @@ returns-in_err-down c =
     let h = a.head in
     let s = a.symbols.now in
     let across = went h.max_x h.symbol_count s.xs c.ranges.x c.move_axis.ensures c.in_ok-across.was in
-    let down = went h.max_y h.symbol_count s.ys c.ranges.y c.move_axis-2.ensures c.in_err-down.was in
+    let down = went {q = Err c.in_err-down.field-0.0} h.max_y h.symbol_count s.ys c.ranges.y c.move_axis-2.ensures (grind arith) in
     let left = leaves_y a.set a.x a.y h s c.in_ok-across.across across c.in_err-down.field-0.0 down in
     let answers = answers_refused a.out.now left.1 in
     record { answer = ap as_written (handed _ _ c.from_residual-in_err-down.ensures.1 ∙ ap Err left.0) ∙ answers.answer; memory = answers.memory }
@@ -47,7 +47,7 @@ write_sign-requires c =
     let h = a.head in
     let s = a.symbols.now in
     let across = went h.max_x h.symbol_count s.xs c.ranges.x c.move_axis.ensures c.in_ok-across.was in
-    let down = went h.max_y h.symbol_count s.ys c.ranges.y c.move_axis-2.ensures c.in_ok-down.was in
+    let down = went {q = Ok c.in_ok-down.down} h.max_y h.symbol_count s.ys c.ranges.y c.move_axis-2.ensures (grind arith) in
     (c.requires.0, c.requires.1, still_valid a.set a.x a.y h s c.in_ok-across.across across c.in_ok-down.down down (omega arith) (omega arith) c.requires.2)
 
 pub returns : goal.returns
@@ -56,6 +56,6 @@ returns c =
     let h = a.head in
     let s = a.symbols.now in
     let across = went h.max_x h.symbol_count s.xs c.ranges.x c.move_axis.ensures c.in_ok-across.was in
-    let down = went h.max_y h.symbol_count s.ys c.ranges.y c.move_axis-2.ensures c.in_ok-down.was in
+    let down = went {q = Ok c.in_ok-down.down} h.max_y h.symbol_count s.ys c.ranges.y c.move_axis-2.ensures (grind arith) in
     let text = text_is a.set a.x a.y h s c.in_ok-across.across across c.in_ok-down.down down (omega arith) (omega arith) in
     record { answer = c.write_sign.ensures.answer ∙ ap (written a.out.now) text; memory = c.write_sign.ensures.memory ∙ ap (output a.out.now) text }
