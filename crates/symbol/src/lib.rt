@@ -14,7 +14,7 @@ use writer::tokens::put_symbol;
 const LAST_CODE: u64 = 62592;
 
 // Reads the symbol of a text by itself, as its code: 0 for null.
-#[tactic(auto, using(crate::proofs::CodeReads::inside, crate::proofs::CodeReads::read_refused, crate::proofs::CodeReads::read_followed, crate::proofs::CodeReads::read_fine))]
+#[tactic(auto, using(crate::proofs::CodeReads::inside, crate::proofs::CodeReads::read_refused, crate::proofs::CodeReads::read_followed, crate::proofs::CodeReads::read_fine), unfolding(token::specs::Ends::left_over))]
 fn read_code(set: Charset, s: &[u8]) -> Result<u16, Refusal>
     ensures { as_code result ≡ code_read set s.now }
 {
