@@ -60,7 +60,9 @@ fn groups_of(symbols: &Symbols, n: usize, sizes: &[u8; SIZES]) -> Groups
     groups
 }
 
-// The groups of n symbols: refused as 7, 9, then 8.
+// The groups of n symbols: refused as 7, 9, then 8. Always inlined: behind a refusal's tag, groups would be written in other pieces than
+// they are read.
+#[inline(always)]
 pub fn measure(symbols: &Symbols, n: usize, sizes: &[u8]) -> Result<Groups, Refusal>
     requires { (n ≤ 64) × All ValidSymbol (upto (symbol_at symbols.now) n) }
     ensures { outcome result ≡ measured sizes.now (upto (symbol_at symbols.now) n) }

@@ -1,27 +1,11 @@
 // The boxes of a sign and twice its centre as 19 numbers.
-ghost use Rattle.std.specs.Prelude.{◌≡◌, ◌<◌};
+ghost use Rattle.std.specs.Prelude.{◌≡◌};
 ghost use Rattle.geometry.specs.Geometry.{as_bounds};
-ghost use Rattle.layout.specs.Layouts.{group_numbers, bounds_numbers};
+ghost use Rattle.layout.specs.Layouts.{bounds_numbers};
 
 use super::numbers::refused;
-use bounds::groups::{ALL, Groups, HEAD, HEAD_WITH_TRUNK};
 use geometry::Bounds;
 use token::refusal::Refusal;
-
-// Whether a group has a symbol, and its box.
-fn group_numbers(groups: Groups, group: usize) -> [u64; 5]
-    requires { group < 3 }
-    ensures { result ≡ group_numbers groups group }
-{
-    let b = groups.boxes[group];
-    [
-        u64::from(groups.present[group]),
-        u64::from(b.left),
-        u64::from(b.top),
-        u64::from(b.right),
-        u64::from(b.bottom),
-    ]
-}
 
 // Bounds in the order of halofret_boxes.
 pub fn bounds_numbers(r: Result<Bounds, Refusal>) -> [u64; 19]
@@ -29,13 +13,29 @@ pub fn bounds_numbers(r: Result<Bounds, Refusal>) -> [u64; 19]
 {
     match r {
         Ok(b) => {
-            let mut all = [0u64; 19];
-            all[2..7].copy_from_slice(&group_numbers(b.groups, HEAD));
-            all[7..12].copy_from_slice(&group_numbers(b.groups, HEAD_WITH_TRUNK));
-            all[12..17].copy_from_slice(&group_numbers(b.groups, ALL));
-            all[17] = u64::from(b.doubled.x);
-            all[18] = u64::from(b.doubled.y);
-            all
+            let [head, body, all] = b.groups.boxes;
+            let [has_head, has_body, has_any] = b.groups.present;
+            [
+                0,
+                0,
+                u64::from(has_head),
+                u64::from(head.left),
+                u64::from(head.top),
+                u64::from(head.right),
+                u64::from(head.bottom),
+                u64::from(has_body),
+                u64::from(body.left),
+                u64::from(body.top),
+                u64::from(body.right),
+                u64::from(body.bottom),
+                u64::from(has_any),
+                u64::from(all.left),
+                u64::from(all.top),
+                u64::from(all.right),
+                u64::from(all.bottom),
+                u64::from(b.doubled.x),
+                u64::from(b.doubled.y),
+            ]
         }
         Err(e) => refused(e),
     }
