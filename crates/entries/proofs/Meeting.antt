@@ -33,11 +33,11 @@ module _ (words : List ℕ) (set : Charset) (line listed : List ℕ) (i : ℕ) {
   pub is_listed : b ≡ true → (q : Answer Bool Refusal) → outcome q ≡ met_on_words words (sign_of set line) → (r : Answer Bool Refusal)
       → ((x : Bool) → q ≡ Ok x → r ≡ Ok x) → ((d : Refusal) → q ≡ Err d → r ≡ Err (LineWrong i)) → r ≡ listed_verdict set words line listed i
   unfolding listed_verdict
-  is_listed h q v r judged wrong = go q refl ∙ rw (← e, h) (ap (line_verdict i) v)
+  is_listed h q v r read refused = go q refl ∙ rw (← e, h) (ap (line_verdict i) v)
     where
       go : (a : Answer Bool Refusal) → q ≡ a → r ≡ line_verdict i (outcome q)
-      go (Ok x) is = rw is (judged x is)
-      go (Err d) is = rw is (wrong d is)
+      go (Ok x) is = rw is (read x is)
+      go (Err d) is = rw is (refused d is)
 
 -- A VERDICT on the line of a listed entry is refused exactly where that is no sign
 module _ (words : List ℕ) (set : Charset) (dict listed : List ℕ) (i : ℕ) {v : Answer Bool Refusal} (e : v ≡ listed_verdict set words (line_of dict i) listed i) where

@@ -29,12 +29,14 @@ pub query_refused : (e : Edition) (s : List ℕ) (r : Answer ⊤ Refusal) → ou
 unfolding verdict_in
 query_refused e s r is d was set text = ap (λ q. verdict_by q (sign_of set text)) (sym (read_failed e s r is d was))
 
-module _ (e : Edition) (s : List ℕ) (n : ℕ) (r : Answer ⊤ Refusal) (words : List ℕ) (v : ReadInto e s n r words) (fits : Fits e s n) where
-  verdict_same : (q : Query) → query_of e s ≡ done q → (sign : Result Meaning) → verdict_on_words (padded n (words_of q)) sign ≡ verdict_on q sign
-  unfolding verdict_on_words verdict_on
-  verdict_same q x (refusal number p) = refl
-  verdict_same q x (done m) = let a = query_accepted e s q x in ap answered (words_laws.verdict q n (omega (arith, fits q x)) a.valid m)
+-- the words of a query that was accepted say of a sign what it says
+pub verdict_same : (e : Edition) (s : List ℕ) (n : ℕ) → Fits e s n → (q : Query) → query_of e s ≡ done q → (sign : Result Meaning)
+    → verdict_on_words (padded n (words_of q)) sign ≡ verdict_on q sign
+unfolding verdict_on_words verdict_on
+verdict_same e s n fits q x (refusal number p) = refl
+verdict_same e s n fits q x (done m) = let a = query_accepted e s q x in ap answered (words_laws.verdict q n (omega (arith, fits q x)) a.valid m)
 
+module _ (e : Edition) (s : List ℕ) (n : ℕ) (r : Answer ⊤ Refusal) (words : List ℕ) (v : ReadInto e s n r words) (fits : Fits e s n) where
   module _ (u : ⊤) (was : r ≡ Ok u) where
     -- the words of a query that was accepted are laid as judging asks, and their verdict is its own
     pub query_laid : Laid words
@@ -48,4 +50,4 @@ module _ (e : Edition) (s : List ℕ) (n : ℕ) (r : Answer ⊤ Refusal) (words 
     unfolding verdict_in
     query_judged set text a y =
         let k = read_done e s n r words v fits u was in
-        y ∙ ap (λ w. verdict_on_words w (sign_of set text)) k.holds ∙ verdict_same k.query k.is (sign_of set text) ∙ ap (λ q. verdict_by q (sign_of set text)) (sym k.is)
+        y ∙ ap (λ w. verdict_on_words w (sign_of set text)) k.holds ∙ verdict_same e s n fits k.query k.is (sign_of set text) ∙ ap (λ q. verdict_by q (sign_of set text)) (sym k.is)
